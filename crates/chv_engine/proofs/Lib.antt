@@ -1,0 +1,10 @@
+pub mod BookLemmas
+pub mod CommitLemmas
+pub mod FileLemmas
+pub mod LexemeLemmas
+pub mod PullLemmas
+pub mod ResultLemmas
+pub mod ScriptLemmas
+pub mod StatementLemmas
+pub mod StoreLemmas
+pub mod TextLemmas

@@ -1,0 +1,19 @@
+-- What pulls add up to.
+use Rattle.std.proofs.Common.{◌≡◌, ℕ, ◌-◌, ◌<◌, ◌≤◌, ◌^◌, List, [], ◌++◌, length, take, sym, ap, subst, ◌∙◌, arith, append_assoc, length-append, length-take}
+use Rattle.std.proofs.lemmas.List.{append-nil}
+use Rattle.chv_engine.specs.Pulls.{PulledTooMuch}
+
+module _ (first script left next chunk : List ℕ) (count : ℕ) (so_far : first ≡ script ++ left) (pulled : left ≡ take count chunk ++ next) where
+  -- a pull goes on
+  pub pulled_on : first ≡ (script ++ take count chunk) ++ next
+  pulled_on = so_far ∙ ap (λ (l : List ℕ). script ++ l) pulled ∙ sym (append_assoc script (take count chunk) next)
+
+  -- a pull of nothing ends it
+  pub pulled_all : count ≡ 0 → left ≡ [] → (script ≡ first) × (next ≡ [])
+  pulled_all none empty =
+      let same : left ≡ next = subst (λ (n : ℕ). left ≡ take n chunk ++ next) none pulled in
+      (sym (so_far ∙ ap (λ (l : List ℕ). script ++ l) empty ∙ append-nil script), sym same ∙ empty)
+
+  -- a pull past the bound
+  pub pulled_too_much : count ≤ length chunk → 2 ^ 26 - length script < count → PulledTooMuch first next
+  pulled_too_much within past = (script ++ take count chunk, pulled_on, omega (arith, within, past, length-append script (take count chunk), length-take count chunk))

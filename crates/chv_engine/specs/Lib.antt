@@ -1,0 +1,15 @@
+pub mod Blocks
+pub mod Commits
+pub mod Ends
+pub mod Faults
+pub mod Histories
+pub mod Lexemes
+pub mod Parts
+pub mod Pulls
+pub mod Replies
+pub mod Runs
+pub mod Script
+pub mod Statements
+pub mod Stores
+pub mod Texts
+pub mod Words

@@ -1,0 +1,3 @@
+pub mod GateLogLemmas
+pub mod ReadingLaws
+pub mod ReadingLemmas

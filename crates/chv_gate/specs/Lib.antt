@@ -1,0 +1,2 @@
+pub mod GateLog
+pub mod Reading

@@ -1,0 +1,3 @@
+pub mod BlockIds
+pub mod Sip
+pub mod SipHash

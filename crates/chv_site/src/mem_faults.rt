@@ -1,0 +1,112 @@
+// Which calls of a site in memory fail, and how often they did.
+ghost use Rattle.std.specs.Prelude.{◌≡◌, ◌≤◌, ◌↔◌, IsTrue, IsErr, OnOk, OnErr};
+ghost use Rattle.chv_site.specs.Faults.{HasRisen};
+ghost use Rattle.chv_site.specs.MemFaults.{IsNextFailing, counted, disk_failed, say_failed, lacking};
+
+use crate::{Failed, Fails};
+
+/// The calls of a site in memory, counted together from 1, and its counts of faults.
+#[derive(Debug, Drop)]
+pub struct MemFaults {
+    pub fails: Fails,
+    /// How many calls there were.
+    pub calls: u64,
+    /// How many calls on files failed.
+    pub disk: u64,
+    /// How many says failed.
+    pub say: u64,
+    /// How many calls found no memory.
+    pub lacked: u64,
+}
+
+impl MemFaults {
+    /// No call so far. The calls with the numbers of `fails` fail.
+    pub fn new(fails: Fails) -> MemFaults
+        ensures { result ≡ record { fails = fails; calls = 0; disk = 0; say = 0; lacked = 0 } }
+    {
+        MemFaults {
+            fails,
+            calls: 0,
+            disk: 0,
+            say: 0,
+            lacked: 0,
+        }
+    }
+
+    // Counts a call, and answers whether it is to fail.
+    fn is_next_failing(&mut self) -> bool
+        ensures failing { IsTrue result ↔ IsNextFailing self.old }
+        ensures counted { self.new ≡ counted self.old }
+    {
+        self.calls = self.calls.saturating_add(1);
+        self.fails.has(self.calls)
+    }
+
+    // Notes that a call on files fails.
+    fn fail_on_files(&mut self) -> Failed
+        ensures failed { self.new ≡ disk_failed self.old }
+        ensures keeps { self.old.disk ≤ self.new.disk }
+        ensures risen { HasRisen self.old.disk self.new.disk }
+    {
+        self.disk = self.disk.saturating_add(1);
+        Failed
+    }
+
+    // Notes that a say fails.
+    fn fail_in_say(&mut self) -> Failed
+        ensures failed { self.new ≡ say_failed self.old }
+        ensures keeps { self.old.say ≤ self.new.say }
+        ensures risen { HasRisen self.old.say self.new.say }
+    {
+        self.say = self.say.saturating_add(1);
+        Failed
+    }
+
+    /// Begins a call on files, which fails where it is told to.
+    pub fn begin_on_files(&mut self) -> Result<(), Failed>
+        ensures failing { IsErr result ↔ IsNextFailing self.old }
+        ensures ok { OnOk result (self.new ≡ counted self.old) }
+        ensures err { OnErr result (self.new ≡ disk_failed (counted self.old)) }
+        ensures keeps { self.old.disk ≤ self.new.disk }
+        ensures risen { OnErr result (HasRisen self.old.disk self.new.disk) }
+    {
+        if self.is_next_failing() {
+            return Err(self.fail_on_files());
+        }
+        Ok(())
+    }
+
+    /// Begins a say, which fails where it is told to.
+    pub fn begin_say(&mut self) -> Result<(), Failed>
+        ensures failing { IsErr result ↔ IsNextFailing self.old }
+        ensures ok { OnOk result (self.new ≡ counted self.old) }
+        ensures err { OnErr result (self.new ≡ say_failed (counted self.old)) }
+        ensures keeps { self.old.say ≤ self.new.say }
+        ensures risen { OnErr result (HasRisen self.old.say self.new.say) }
+    {
+        if self.is_next_failing() {
+            return Err(self.fail_in_say());
+        }
+        Ok(())
+    }
+
+    /// Ends a call on files that found no memory.
+    pub fn lack_on_files(&mut self) -> Failed
+        ensures lacking { self.new ≡ lacking (disk_failed self.old) }
+        ensures keeps { self.old.disk ≤ self.new.disk }
+        ensures risen { HasRisen self.old.disk self.new.disk }
+    {
+        self.lacked = self.lacked.saturating_add(1);
+        self.fail_on_files()
+    }
+
+    /// Ends a say that found no memory.
+    pub fn lack_in_say(&mut self) -> Failed
+        ensures lacking { self.new ≡ lacking (say_failed self.old) }
+        ensures keeps { self.old.say ≤ self.new.say }
+        ensures risen { HasRisen self.old.say self.new.say }
+    {
+        self.lacked = self.lacked.saturating_add(1);
+        self.fail_in_say()
+    }
+}
