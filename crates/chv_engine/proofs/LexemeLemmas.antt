@@ -12,6 +12,7 @@ use Rattle.chv_engine.specs.Script.{is_white}
 use Rattle.chv_engine.specs.Lexemes.{Lexeme, Word, Open, Close, Equals, ends_word, begins_word, with_letter, lexemes, lexeme_eq, seen}
 use Rattle.chv_engine.proofs.ScriptLemmas.{at_place, at_end, take-cons, drop-cons}
 
+-- a test that fails
 not_true : (b : Bool) → not b ≡ true → b ≡ false
 not_true true h = cc
 not_true false h = refl
@@ -129,7 +130,7 @@ pub and-right : (a b : Bool) → (a && b) ≡ true → b ≡ true
 and-right true b h = h
 and-right false b h = cc
 
--- lists of lexemes that test xs the same are the same
+-- lists of lexemes that test as the same are the same
 pub lexemes_eq-same : (xs ys : List Lexeme) → pointwise lexeme_eq xs ys ≡ true → xs ≡ ys
 lexemes_eq-same [] [] h = refl
 lexemes_eq-same [] (y ∷ ys) h = cc
@@ -139,7 +140,7 @@ lexemes_eq-same (x ∷ xs) (y ∷ ys) h =
     let others = lexemes_eq-same xs ys (and-right (lexeme_eq x y) (pointwise lexeme_eq xs ys) h) in
     cc
 
--- a list of lexemes is the same xs itself
+-- a list of lexemes is the same as itself
 pub lexemes_eq-itself : (xs : List Lexeme) → pointwise lexeme_eq xs xs ≡ true
 lexemes_eq-itself [] = refl
 lexemes_eq-itself (x ∷ xs) = rw (lexeme_eq-itself x, lexemes_eq-itself xs) refl

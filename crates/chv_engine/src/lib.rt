@@ -15,6 +15,8 @@ mod print;
 mod pull;
 mod reply;
 mod run;
+#[cfg(test)]
+mod runs;
 mod say;
 mod status;
 mod store;

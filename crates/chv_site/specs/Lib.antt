@@ -1,6 +1,13 @@
+pub mod CallLog
+pub mod Calls
+pub mod Crash
+pub mod During
 pub mod Faults
 pub mod FileStore
 pub mod Files
+pub mod Images
+pub mod Laws
 pub mod MemFaults
+pub mod MemFile
 pub mod MemSite
 pub mod MemSource

@@ -1,15 +1,22 @@
 -- Which calls of a site in memory fail, and its counts of faults.
-use Rattle.std.specs.Prelude.{ℕ, ◌+◌, ◌-◌, ◌^◌, min}
+use Rattle.std.specs.Prelude.{ℕ, ◌≡◌, ◌⊎◌, ◌≤◌, List, Option, Result, IsErr}
+use Rattle.std.specs.declared.option.Option.TheVariants.{None, Some}
 use Rattle.std.specs.List.{Contains}
+use Rattle.chv_site.specs.Faults.{raised, HasRisen}
 use Rattle.chv_site.specs.declared.mem_faults.MemFaults.{MemFaults}
 
--- one more, up to the last value of a u64
-abbrev pub raised : ℕ → ℕ
-raised n = min (n + 1) (2 ^ 64 - 1)
+-- no call so far, where those with these numbers are to fail
+abbrev pub uncounted : List ℕ → MemFaults
+uncounted fails = record { fails = fails; stop = None; calls = 0; disk = 0; say = 0; lacked = 0 }
 
--- the next call's number is among those that fail
+-- a call is the first of those that fail from it on, or one behind it
+abbrev pub IsStopped : Option ℕ → ℕ → Type 0
+IsStopped None call = ⊥
+IsStopped (Some first) call = first ≤ call
+
+-- the next call is to fail
 abbrev pub IsNextFailing : MemFaults → Type 0
-IsNextFailing faults = Contains faults.fails (raised faults.calls)
+IsNextFailing faults = Contains faults.fails (raised faults.calls) ⊎ IsStopped faults.stop (raised faults.calls)
 
 -- one more call
 abbrev pub counted : MemFaults → MemFaults
@@ -26,3 +33,11 @@ say_failed faults = record faults { say = raised faults.say }
 -- one more call has found no memory
 abbrev pub lacking : MemFaults → MemFaults
 lacking faults = record faults { lacked = raised faults.lacked }
+
+-- a call fails exactly where it is told to, or where it finds no memory
+pub record IsAsTold {T E : Type 0} (old new : MemFaults) (result : Result T E) : Type 0 where
+  pub told : IsNextFailing old → IsErr result
+  pub only : IsErr result → IsNextFailing old ⊎ HasRisen old.lacked new.lacked
+  pub counted : new.calls ≡ raised old.calls
+  pub fails : new.fails ≡ old.fails
+  pub stop : new.stop ≡ old.stop

@@ -1,6 +1,7 @@
 // Bytes from one place to another.
-ghost use Rattle.std.specs.Prelude.{◌≡◌, ◌≤◌, length, take, min, OnOk, OnErr};
-ghost use Rattle.chv_site.specs.Files.{over_written};
+ghost use Rattle.std.specs.Prelude.{◌≡◌, ◌⊎◌, ◌<◌, ◌≤◌, ℕ, slice_index, length, take, min, OnOk, OnErr};
+ghost use Rattle.chv_site.specs.Crash.{IsTouched};
+ghost use Rattle.chv_site.specs.Files.{over_written, IsUntouched};
 
 use std::alloc::AllocError;
 
@@ -24,4 +25,29 @@ pub fn over_write(file: &mut Vec<u8>, at: usize, bytes: &[u8]) -> Result<(), All
     file.extend_from_slice(&bytes[over..])?;
     file[at..at + over].copy_from_slice(&bytes[..over]);
     Ok(())
+}
+
+/// Sets the bytes from one place up to another, as far as there are any.
+pub fn fill(bytes: &mut [u8], from: usize, to: usize, byte: u8)
+    ensures length { length bytes.new ≡ length bytes.old }
+    ensures inside { (place : ℕ) → from ≤ place → place < to → place < length bytes.old → slice_index bytes.new place ≡ byte }
+    ensures either { (place : ℕ) → slice_index bytes.old place ≡ byte → slice_index bytes.new place ≡ byte }
+    ensures outside { (place : ℕ) → (place < from) ⊎ (to ≤ place) → slice_index bytes.new place ≡ slice_index bytes.old place }
+{
+    let end = to.min(bytes.len());
+    for place in from..end {
+        bytes[place] = byte;
+    }
+}
+
+/// Sets the bytes in these ranges, as far as there are any.
+pub fn fill_all(bytes: &mut [u8], ranges: &[(usize, usize)], byte: u8)
+    ensures length { length bytes.new ≡ length bytes.old }
+    ensures touched { (place : ℕ) → place < length bytes.old → IsTouched ranges.now place → slice_index bytes.new place ≡ byte }
+    ensures untouched { (place : ℕ) → IsUntouched ranges.now place → slice_index bytes.new place ≡ slice_index bytes.old place }
+    ensures either { (place : ℕ) → slice_index bytes.old place ≡ byte → slice_index bytes.new place ≡ byte }
+{
+    for range in ranges {
+        fill(bytes, range.0, range.1, byte);
+    }
 }

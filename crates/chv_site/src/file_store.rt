@@ -1,25 +1,31 @@
 // Files in memory, by their names.
-ghost use Rattle.std.specs.Prelude.{◌≡◌, ◌≢◌, ◌≤◌, [], length, take, OnOk, OnErr};
+ghost use Rattle.std.specs.Prelude.{◌≡◌, cond, IfOk, OnOk, OnErr};
+ghost use Rattle.std.specs.declared.option.Option.TheVariants.{None};
+ghost use Rattle.std.specs.BTreeMap.{get, keys};
 ghost use Rattle.chv_site.specs.declared.file_id.FileId.{FileId};
-ghost use Rattle.chv_site.specs.Files.{over_written};
-ghost use Rattle.chv_site.specs.FileStore.{bytes_of, KeepsAll, KeepsOtherBytes};
+ghost use Rattle.chv_site.specs.Images.{HasLengths};
+ghost use Rattle.chv_site.specs.Crash.{IsPicked};
+ghost use Rattle.chv_site.specs.Calls.{fresh, id_cmp, is_file, after_act, IsPossible};
+ghost use Rattle.chv_site.specs.FileStore.{kept_of};
 
 use crate::FileId;
-use crate::copying::over_write;
+use crate::call::Act;
+use crate::mem_file::MemFile;
+use crate::pick::Pick;
 use std::alloc::{AllocError, Global};
 use std::collections::BTreeMap;
 
-/// Files in memory. An absent one reads as empty.
+/// Files in memory. An absent one is empty.
 #[derive(Drop)]
 pub struct FileStore {
     alloc: Global,
-    by_id: BTreeMap<FileId, Vec<u8>>,
+    by_id: BTreeMap<FileId, MemFile>,
 }
 
 impl FileStore {
     /// No files.
     pub fn new(alloc: Global) -> FileStore
-        ensures { (f : FileId) → bytes_of result f ≡ [] }
+        ensures { (g : FileId) → kept_of result g ≡ fresh }
     {
         FileStore {
             alloc,
@@ -27,47 +33,56 @@ impl FileStore {
         }
     }
 
-    /// What a file has.
+    /// The bytes of a file.
     pub fn read(&self, f: FileId) -> &[u8]
-        ensures { result.now ≡ bytes_of self.now f }
+        ensures { result.now ≡ (kept_of self.now f).state.bytes }
     {
         match self.by_id.get(&f) {
-            Some(bytes) => bytes.as_slice(),
+            Some(file) => file.bytes.as_slice(),
             None => &[],
         }
     }
 
-    /// Writes bytes at a place, over what is there and past the end.
-    pub fn write(&mut self, f: FileId, at: usize, bytes: &[u8]) -> Result<(), AllocError>
-        requires { at ≤ length (bytes_of self.old f) }
-        ensures written { OnOk result (bytes_of self.new f ≡ over_written at bytes.now (bytes_of self.old f)) }
-        ensures others { KeepsOtherBytes f self.old self.new }
-        ensures err { OnErr result (KeepsAll self.old self.new) }
+    /// Acts on a file. Where it finds no memory, every file is as it was.
+    pub fn act(&mut self, f: FileId, act: &Act) -> Result<(), AllocError>
+        requires { IsPossible act.now (kept_of self.old f).state }
+        ensures acted { OnOk result ((g : FileId) → kept_of self.new g ≡ cond (is_file f g) (after_act act.now (kept_of self.old g)) (kept_of self.old g)) }
+        ensures err { OnErr result ((g : FileId) → kept_of self.new g ≡ kept_of self.old g) }
     {
         match self.by_id.get_mut(&f) {
-            Some(file) => over_write(file, at, bytes),
-            None => self.add(f, bytes),
+            Some(file) => file.act(act),
+            None => self.make(f, act),
         }
     }
 
-    // Makes a file that is absent.
-    fn add(&mut self, f: FileId, bytes: &[u8]) -> Result<(), AllocError>
-        ensures added { OnOk result (bytes_of self.new f ≡ bytes.now) }
-        ensures others { KeepsOtherBytes f self.old self.new }
-        ensures err { OnErr result (KeepsAll self.old self.new) }
+    // Makes a file, and acts on it.
+    fn make(&mut self, f: FileId, act: &Act) -> Result<(), AllocError>
+        requires absent { get id_cmp self.old.by_id f ≡ None }
+        requires possible { IsPossible act.now fresh.state }
+        ensures made { OnOk result ((g : FileId) → kept_of self.new g ≡ cond (is_file f g) (after_act act.now (kept_of self.old g)) (kept_of self.old g)) }
+        ensures err { OnErr result ((g : FileId) → kept_of self.new g ≡ kept_of self.old g) }
     {
-        let file = bytes.to_vec(self.alloc)?;
+        let mut file = MemFile::new(self.alloc);
+        file.act(act)?;
         self.by_id.insert(f, file)?;
         Ok(())
     }
 
-    /// Cuts a file to a length.
-    pub fn cut(&mut self, f: FileId, len: usize)
-        ensures cut { bytes_of self.new f ≡ take len (bytes_of self.old f) }
-        ensures others { KeepsOtherBytes f self.old self.new }
+    /// The names of the files.
+    pub fn names(&self) -> Result<Vec<FileId>, AllocError>
+        ensures { IfOk result (λ names. names.items ≡ keys self.now.by_id) }
     {
-        if let Some(file) = self.by_id.get_mut(&f) {
-            file.truncate(len);
+        self.by_id.keys().copied().collect(self.alloc)
+    }
+
+    /// The bytes that a crash leaves of a file.
+    pub fn image(&self, f: FileId, pick: Pick) -> Result<Vec<u8>, AllocError>
+        requires { HasLengths (kept_of self.now f).state }
+        ensures { IfOk result (λ image. IsPicked pick (kept_of self.now f) image.items) }
+    {
+        match self.by_id.get(&f) {
+            Some(file) => file.image(pick),
+            None => Ok(Vec::new(self.alloc)),
         }
     }
 }

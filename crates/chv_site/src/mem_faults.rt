@@ -1,14 +1,17 @@
 // Which calls of a site in memory fail, and how often they did.
-ghost use Rattle.std.specs.Prelude.{◌≡◌, ◌≤◌, ◌↔◌, IsTrue, IsErr, OnOk, OnErr};
+ghost use Rattle.std.specs.Prelude.{◌≡◌, ◌≤◌, ◌↔◌, IsTrue, IsOk, IsErr, OnOk, OnErr};
 ghost use Rattle.chv_site.specs.Faults.{HasRisen};
-ghost use Rattle.chv_site.specs.MemFaults.{IsNextFailing, counted, disk_failed, say_failed, lacking};
+ghost use Rattle.chv_site.specs.MemFaults.{uncounted, IsStopped, IsNextFailing, counted, disk_failed, say_failed, lacking};
 
 use crate::{Failed, Fails};
+use std::alloc::AllocError;
 
 /// The calls of a site in memory, counted together from 1, and its counts of faults.
 #[derive(Debug, Drop)]
 pub struct MemFaults {
     pub fails: Fails,
+    /// The first of the calls that fail from some call on.
+    pub stop: Option<u64>,
     /// How many calls there were.
     pub calls: u64,
     /// How many calls on files failed.
@@ -22,10 +25,11 @@ pub struct MemFaults {
 impl MemFaults {
     /// No call so far. The calls with the numbers of `fails` fail.
     pub fn new(fails: Fails) -> MemFaults
-        ensures { result ≡ record { fails = fails; calls = 0; disk = 0; say = 0; lacked = 0 } }
+        ensures { result ≡ uncounted fails }
     {
         MemFaults {
             fails,
+            stop: None,
             calls: 0,
             disk: 0,
             say: 0,
@@ -39,7 +43,17 @@ impl MemFaults {
         ensures counted { self.new ≡ counted self.old }
     {
         self.calls = self.calls.saturating_add(1);
-        self.fails.has(self.calls)
+        self.fails.has(self.calls) || self.is_stopped()
+    }
+
+    // Whether the calls have come to the first of those that fail from some call on.
+    fn is_stopped(&self) -> bool
+        ensures { IsTrue result ↔ IsStopped self.now.stop self.now.calls }
+    {
+        match self.stop {
+            Some(first) => first <= self.calls,
+            None => false,
+        }
     }
 
     // Notes that a call on files fails.
@@ -90,23 +104,37 @@ impl MemFaults {
         Ok(())
     }
 
-    /// Ends a call on files that found no memory.
-    pub fn lack_on_files(&mut self) -> Failed
-        ensures lacking { self.new ≡ lacking (disk_failed self.old) }
+    /// Ends a call on files, which fails where it found no memory.
+    pub fn end_on_files(&mut self, done: Result<(), AllocError>) -> Result<(), Failed>
+        ensures answer { IsOk result ↔ IsOk done }
+        ensures ok { OnOk result (self.new ≡ self.old) }
+        ensures err { OnErr result (self.new ≡ lacking (disk_failed self.old)) }
         ensures keeps { self.old.disk ≤ self.new.disk }
-        ensures risen { HasRisen self.old.disk self.new.disk }
+        ensures risen { OnErr result (HasRisen self.old.disk self.new.disk) }
     {
-        self.lacked = self.lacked.saturating_add(1);
-        self.fail_on_files()
+        match done {
+            Ok(()) => Ok(()),
+            Err(_) => {
+                self.lacked = self.lacked.saturating_add(1);
+                Err(self.fail_on_files())
+            }
+        }
     }
 
-    /// Ends a say that found no memory.
-    pub fn lack_in_say(&mut self) -> Failed
-        ensures lacking { self.new ≡ lacking (say_failed self.old) }
+    /// Ends a say, which fails where it found no memory.
+    pub fn end_say(&mut self, done: Result<(), AllocError>) -> Result<(), Failed>
+        ensures answer { IsOk result ↔ IsOk done }
+        ensures ok { OnOk result (self.new ≡ self.old) }
+        ensures err { OnErr result (self.new ≡ lacking (say_failed self.old)) }
         ensures keeps { self.old.say ≤ self.new.say }
-        ensures risen { HasRisen self.old.say self.new.say }
+        ensures risen { OnErr result (HasRisen self.old.say self.new.say) }
     {
-        self.lacked = self.lacked.saturating_add(1);
-        self.fail_in_say()
+        match done {
+            Ok(()) => Ok(()),
+            Err(_) => {
+                self.lacked = self.lacked.saturating_add(1);
+                Err(self.fail_in_say())
+            }
+        }
     }
 }

@@ -1,116 +1,254 @@
 // A site in memory.
+use crate::call::Act;
+use crate::call_log::CallLog;
 use crate::copying::copy_front;
-use crate::file_store::FileStore;
 use crate::mem_faults::MemFaults;
-use crate::{Failed, Fails, FileId, Site};
-use std::alloc::Global;
+use crate::{Failed, Fails, FileId, Pick, Site};
+use std::alloc::{AllocError, Global};
 
 /// Files and a console in memory, whose calls fail where they are told to, and where they find no memory.
 ///
-/// Its calls are counted together, the first being 1.
+/// Its calls are counted together, the first being 1. It keeps a record of them, from which follows what a crash may
+/// leave. A put or a cut that fails changes no byte, but was begun: until the next sync, a crash may leave the file torn.
 #[derive(Drop)]
 pub struct MemSite {
-    files: FileStore,
-    text: Vec<u8>,
+    log: CallLog,
     faults: MemFaults,
 }
 
 impl MemSite {
-    ghost use Rattle.std.specs.Prelude.{◌≡◌, []};
+    ghost use Rattle.std.specs.Prelude.{◌≡◌, [], ◌∷◌, IsErr, IfOk, OnOk};
+    ghost use Rattle.std.specs.declared.option.Option.TheVariants.{Some};
     ghost use Rattle.chv_site.specs.declared.file_id.FileId.{FileId};
-    ghost use Rattle.chv_site.specs.MemSite.{site_file, site_text, site_faults};
+    ghost use Rattle.chv_site.specs.declared.call.Call.TheVariants.{OnFile};
+    ghost use Rattle.chv_site.specs.Faults.{IsCounted};
+    ghost use Rattle.chv_site.specs.MemFaults.{uncounted, IsAsTold};
+    ghost use Rattle.chv_site.specs.Images.{IsImage};
+    ghost use Rattle.chv_site.specs.Crash.{IsRestored};
+    ghost use Rattle.chv_site.specs.Calls.{kept_after, state_after, bytes_after, text_after, IsPossible, IsEnded};
+    ghost use Rattle.chv_site.specs.MemSite.{calls_of, faults_of};
 
     /// A site with no files, of which nothing was said. The calls with the numbers of `fails` fail.
     pub fn new(alloc: Global, fails: Fails) -> MemSite
-        ensures files { (f : FileId) → site_file result f ≡ [] }
-        ensures said { site_text result ≡ [] }
-        ensures faults { site_faults result ≡ record { fails = fails; calls = 0; disk = 0; say = 0; lacked = 0 } }
+        ensures calls { calls_of result ≡ [] }
+        ensures faults { faults_of result ≡ uncounted fails }
     {
         MemSite {
-            files: FileStore::new(alloc),
-            text: Vec::new(alloc),
+            log: CallLog::new(alloc),
             faults: MemFaults::new(fails),
         }
     }
 
+    /// From the call of this number on, every call fails.
+    pub fn stop_at(&mut self, call: u64)
+        ensures calls { calls_of self.new ≡ calls_of self.old }
+        ensures faults { faults_of self.new ≡ record (faults_of self.old) { stop = Some call } }
+    {
+        self.faults.stop = Some(call);
+    }
+
     /// The bytes said.
     pub fn said(&self) -> &[u8]
-        ensures { result.now ≡ site_text self.now }
+        ensures { result.now ≡ text_after (calls_of self.now) }
     {
-        &self.text
+        self.log.text()
     }
 
     /// What a file has. An absent one is empty.
     pub fn file(&self, f: FileId) -> &[u8]
-        ensures { result.now ≡ site_file self.now f }
+        ensures { result.now ≡ (state_after (calls_of self.now) f).bytes }
     {
-        self.files.read(f)
+        self.log.read(f)
     }
 
     /// How many calls found no memory.
     pub fn lacked(&self) -> u64
-        ensures { result ≡ (site_faults self.now).lacked }
+        ensures { result ≡ (faults_of self.now).lacked }
     {
         self.faults.lacked
+    }
+
+    /// The site that is found after a crash now: the files are the image that is picked, nothing is pending, nothing was
+    /// said, and no call is told to fail.
+    pub fn crash(self, pick: Pick) -> Result<MemSite, AllocError>
+        ensures files { IfOk result (λ made. (g : FileId) → IsRestored pick (kept_after (calls_of self) g) (kept_after (calls_of made) g)) }
+        ensures image { IfOk result (λ made. IsImage (state_after (calls_of self)) (bytes_after (calls_of made))) }
+        ensures said { IfOk result (λ made. text_after (calls_of made) ≡ []) }
+        ensures faults { IfOk result (λ made. faults_of made ≡ uncounted []) }
+    {
+        let log = self.log.crash(pick)?;
+        let fails = Fails::new(log.alloc());
+        Ok(MemSite {
+            log,
+            faults: MemFaults::new(fails),
+        })
+    }
+
+    // A call that acts on a file, or only begins to where it is told to fail.
+    fn act(&mut self, f: FileId, act: Act, begun: Act) -> Result<(), Failed>
+        requires act { IsPossible act (state_after (calls_of self.old) f) }
+        requires begun { IsPossible begun (state_after (calls_of self.old) f) }
+        ensures acted { OnOk result (calls_of self.new ≡ OnFile f act ∷ calls_of self.old) }
+        ensures ended { IsEnded f act begun (calls_of self.old) (calls_of self.new) }
+        ensures failed { IsCounted (faults_of self.old).disk (faults_of self.new).disk result }
+        ensures other_faults { (faults_of self.new).say ≡ (faults_of self.old).say }
+        ensures told { IsAsTold (faults_of self.old) (faults_of self.new) result }
+    {
+        if let Err(failed) = self.faults.begin_on_files() {
+            let _ = self.log.act(f, begun);
+            return Err(failed);
+        }
+        let done = self.log.act(f, act);
+        self.faults.end_on_files(done)
+    }
+
+    // A call on files that finds no memory.
+    fn lack(&mut self) -> Result<(), Failed>
+        ensures fails { IsErr result }
+        ensures calls { calls_of self.new ≡ calls_of self.old }
+        ensures failed { IsCounted (faults_of self.old).disk (faults_of self.new).disk result }
+        ensures other_faults { (faults_of self.new).say ≡ (faults_of self.old).say }
+        ensures told { IsAsTold (faults_of self.old) (faults_of self.new) result }
+    {
+        self.faults.begin_on_files()?;
+        self.faults.end_on_files(Err(AllocError))
     }
 }
 
 impl Site for MemSite {
-    ghost use Rattle.chv_site.specs.Files.{settled};
-    ghost use Rattle.chv_site.specs.MemSite.{site_file, site_text, site_faults};
+    ghost use Rattle.std.specs.Prelude.{◌≡◌, ◌++◌, ◌+◌, ◌-◌, ◌^◌, ◌<◌, ◌≤◌, length, take, drop, min, IfOk, OnOk, OnErr};
+    ghost use Rattle.chv_site.specs.Faults.{IsCounted};
+    ghost use Rattle.chv_site.specs.MemFaults.{IsAsTold};
+    ghost use Rattle.chv_site.specs.Files.{settled, over_written, IsPut, IsCut, KeepsFiles, KeepsOthers, IsFrontOf};
+    ghost use Rattle.chv_site.specs.Images.{IsLeft, IsLeftSaying};
+    ghost use Rattle.chv_site.specs.During.{During};
+    ghost use Rattle.chv_site.specs.Laws.{left_now, left_last, lengths_after};
+    ghost use Rattle.chv_site.specs.MemSite.{calls_of, files_of, said_by, moment_of, left_by, faults_of, disk_faults_of, say_faults_of};
 
     ghost tells = { Unit {0} };
 
-    ghost state = { λ m f. settled (site_file m f) };
+    ghost state = { files_of };
 
-    ghost said = { site_text };
+    ghost said = { said_by };
 
-    ghost disk_faults = { λ m. (site_faults m).disk };
+    ghost moment = { moment_of };
 
-    ghost say_faults = { λ m. (site_faults m).say };
+    ghost left_since = { left_by };
 
-    fn size(&mut self, f: FileId) -> Result<u64, Failed> {
+    ghost disk_faults = { disk_faults_of };
+
+    ghost say_faults = { say_faults_of };
+
+    ghost counts_now = { λ m t image le is. left_now (calls_of m) t image is };
+
+    ghost only_now = { λ m image text left. left_last (calls_of m) image text left };
+
+    ghost reads = { λ m f. lengths_after (calls_of m) f };
+
+    fn size(&mut self, f: FileId) -> Result<u64, Failed>
+        ensures size { IfOk result (λ n. n ≡ length (files_of self.old f).bytes) }
+        ensures files { KeepsFiles (files_of self.old) (files_of self.new) }
+        ensures said { said_by self.new ≡ said_by self.old }
+        ensures during { During moment_of left_by self.old self.new (IsLeft (files_of self.old) (said_by self.old)) }
+        ensures failed { IsCounted (disk_faults_of self.old) (disk_faults_of self.new) result }
+        ensures other_faults { say_faults_of self.new ≡ say_faults_of self.old }
+        ensures told { IsAsTold (faults_of self.old) (faults_of self.new) result }
+    {
         self.faults.begin_on_files()?;
-        Ok(self.files.read(f).len() as u64)
+        Ok(self.log.read(f).len() as u64)
     }
 
-    fn fetch(&mut self, f: FileId, at: u64, buf: &mut [u8]) -> Result<usize, Failed> {
+    fn fetch(&mut self, f: FileId, at: u64, buf: &mut [u8]) -> Result<usize, Failed>
+        ensures within { IfOk result (λ n. n ≤ length buf.old) }
+        ensures count { IfOk result (λ n. n ≡ min (length buf.old) (length (files_of self.old f).bytes - at)) }
+        ensures bytes { IfOk result (λ n. take n buf.new ≡ take n (drop at (files_of self.old f).bytes)) }
+        ensures files { KeepsFiles (files_of self.old) (files_of self.new) }
+        ensures said { said_by self.new ≡ said_by self.old }
+        ensures during { During moment_of left_by self.old self.new (IsLeft (files_of self.old) (said_by self.old)) }
+        ensures failed { IsCounted (disk_faults_of self.old) (disk_faults_of self.new) result }
+        ensures other_faults { say_faults_of self.new ≡ say_faults_of self.old }
+        ensures told { IsAsTold (faults_of self.old) (faults_of self.new) result }
+    {
         self.faults.begin_on_files()?;
-        let file = self.files.read(f);
+        let file = self.log.read(f);
         let from = file.len().min(at as usize);
         Ok(copy_front(&file[from..], buf))
     }
 
-    fn put(&mut self, f: FileId, at: u64, bytes: &[u8]) -> Result<(), Failed> {
-        self.faults.begin_on_files()?;
-        match self.files.write(f, at as usize, bytes) {
-            Ok(()) => Ok(()),
-            Err(_) => Err(self.faults.lack_on_files()),
+    fn put(&mut self, f: FileId, at: u64, bytes: &[u8]) -> Result<(), Failed>
+        requires inside { at ≤ length (files_of self.old f).bytes }
+        requires room { at + length bytes.now < 2 ^ 64 }
+        ensures put { OnOk result ((files_of self.new f).bytes ≡ over_written at bytes.now (files_of self.old f).bytes) }
+        ensures torn { IsPut at (length bytes.now) (files_of self.old f) (files_of self.new f) }
+        ensures others { KeepsOthers f (files_of self.old) (files_of self.new) }
+        ensures said { said_by self.new ≡ said_by self.old }
+        ensures during { During moment_of left_by self.old self.new (IsLeft (files_of self.new) (said_by self.old)) }
+        ensures failed { IsCounted (disk_faults_of self.old) (disk_faults_of self.new) result }
+        ensures other_faults { say_faults_of self.new ≡ say_faults_of self.old }
+        ensures told { IsAsTold (faults_of self.old) (faults_of self.new) result }
+    {
+        let at = at as usize;
+        let len = bytes.len();
+        match self.log.put_of(at, bytes) {
+            Ok(act) => self.act(f, act, Act::BeginPut { at, len }),
+            Err(_) => self.lack(),
         }
     }
 
-    fn cut(&mut self, f: FileId, len: u64) -> Result<(), Failed> {
+    fn cut(&mut self, f: FileId, len: u64) -> Result<(), Failed>
+        requires { len ≤ length (files_of self.old f).bytes }
+        ensures cut { OnOk result ((files_of self.new f).bytes ≡ take len (files_of self.old f).bytes) }
+        ensures torn { IsCut len (files_of self.old f) (files_of self.new f) }
+        ensures others { KeepsOthers f (files_of self.old) (files_of self.new) }
+        ensures said { said_by self.new ≡ said_by self.old }
+        ensures during { During moment_of left_by self.old self.new (IsLeft (files_of self.new) (said_by self.old)) }
+        ensures failed { IsCounted (disk_faults_of self.old) (disk_faults_of self.new) result }
+        ensures other_faults { say_faults_of self.new ≡ say_faults_of self.old }
+        ensures told { IsAsTold (faults_of self.old) (faults_of self.new) result }
+    {
+        let len = len as usize;
+        self.act(f, Act::Cut { len }, Act::BeginCut { len })
+    }
+
+    fn sync(&mut self, f: FileId) -> Result<(), Failed>
+        ensures durable { OnOk result (files_of self.new f ≡ settled (files_of self.old f).bytes) }
+        ensures err { OnErr result (files_of self.new f ≡ files_of self.old f) }
+        ensures others { KeepsOthers f (files_of self.old) (files_of self.new) }
+        ensures said { said_by self.new ≡ said_by self.old }
+        ensures during { During moment_of left_by self.old self.new (IsLeft (files_of self.old) (said_by self.old)) }
+        ensures failed { IsCounted (disk_faults_of self.old) (disk_faults_of self.new) result }
+        ensures other_faults { say_faults_of self.new ≡ say_faults_of self.old }
+        ensures told { IsAsTold (faults_of self.old) (faults_of self.new) result }
+    {
         self.faults.begin_on_files()?;
-        self.files.cut(f, len as usize);
-        Ok(())
+        let done = self.log.act(f, Act::Sync);
+        self.faults.end_on_files(done)
     }
 
-    fn sync(&mut self, f: FileId) -> Result<(), Failed> {
-        let _ = f;
-        self.faults.begin_on_files()
+    fn discard(&mut self, f: FileId) -> Result<(), Failed>
+        ensures discarded { OnOk result ((files_of self.new f).bytes ≡ take 0 (files_of self.old f).bytes) }
+        ensures torn { IsCut 0 (files_of self.old f) (files_of self.new f) }
+        ensures others { KeepsOthers f (files_of self.old) (files_of self.new) }
+        ensures said { said_by self.new ≡ said_by self.old }
+        ensures during { During moment_of left_by self.old self.new (IsLeft (files_of self.new) (said_by self.old)) }
+        ensures failed { IsCounted (disk_faults_of self.old) (disk_faults_of self.new) result }
+        ensures other_faults { say_faults_of self.new ≡ say_faults_of self.old }
+        ensures told { IsAsTold (faults_of self.old) (faults_of self.new) result }
+    {
+        self.cut(f, 0)
     }
 
-    fn discard(&mut self, f: FileId) -> Result<(), Failed> {
-        self.faults.begin_on_files()?;
-        self.files.cut(f, 0);
-        Ok(())
-    }
-
-    fn say(&mut self, bytes: &[u8]) -> Result<(), Failed> {
+    fn say(&mut self, bytes: &[u8]) -> Result<(), Failed>
+        ensures said { OnOk result (said_by self.new ≡ said_by self.old ++ bytes.now) }
+        ensures err { OnErr result (IsFrontOf bytes.now (said_by self.old) (said_by self.new)) }
+        ensures files { KeepsFiles (files_of self.old) (files_of self.new) }
+        ensures during { During moment_of left_by self.old self.new (IsLeftSaying (files_of self.old) (said_by self.old) bytes.now) }
+        ensures failed { IsCounted (say_faults_of self.old) (say_faults_of self.new) result }
+        ensures other_faults { disk_faults_of self.new ≡ disk_faults_of self.old }
+        ensures told { IsAsTold (faults_of self.old) (faults_of self.new) result }
+    {
         self.faults.begin_say()?;
-        match self.text.extend_from_slice(bytes) {
-            Ok(()) => Ok(()),
-            Err(_) => Err(self.faults.lack_in_say()),
-        }
+        let done = self.log.say(bytes);
+        self.faults.end_say(done)
     }
 }

@@ -40,7 +40,10 @@ impl MemSource {
 }
 
 impl Source for MemSource {
-    ghost use Rattle.chv_site.specs.MemSource.{source_left, source_faults};
+    ghost use Rattle.std.specs.Prelude.{◌≡◌, ◌++◌, ◌<◌, ◌≤◌, ◌↔◌, [], length, take, IfOk, IsErr, OnErr};
+    ghost use Rattle.std.specs.List.{Contains};
+    ghost use Rattle.chv_site.specs.Faults.{IsCounted, raised};
+    ghost use Rattle.chv_site.specs.MemSource.{source_left, source_fails, source_calls, source_faults};
 
     ghost tells = { Unit {0} };
 
@@ -48,7 +51,19 @@ impl Source for MemSource {
 
     ghost faults = { source_faults };
 
-    fn pull(&mut self, buf: &mut [u8]) -> Result<usize, Failed> {
+    fn pull(&mut self, buf: &mut [u8]) -> Result<usize, Failed>
+        requires { 0 < length buf.old }
+        ensures within { IfOk result (λ n. n ≤ length buf.old) }
+        ensures pulled { IfOk result (λ n. source_left self.old ≡ take n buf.new ++ source_left self.new) }
+        ensures end { IfOk result (λ n. (n ≡ 0) ↔ (source_left self.old ≡ [])) }
+        ensures err { OnErr result (source_left self.new ≡ source_left self.old) }
+        ensures failed { IsCounted (source_faults self.old) (source_faults self.new) result }
+
+        // It fails exactly where it is told to.
+        ensures told { IsErr result ↔ Contains (source_fails self.old) (raised (source_calls self.old)) }
+        ensures calls { source_calls self.new ≡ raised (source_calls self.old) }
+        ensures fails { source_fails self.new ≡ source_fails self.old }
+    {
         self.calls = self.calls.saturating_add(1);
         if self.fails.has(self.calls) {
             self.faults = self.faults.saturating_add(1);

@@ -3,6 +3,8 @@ ghost use Rattle.std.specs.Prelude.{◌≡◌, ◌++◌, ◌+◌, ◌-◌, ◌^�
 ghost use Rattle.chv_site.specs.declared.file_id.FileId.{FileId};
 ghost use Rattle.chv_site.specs.Faults.{IsCounted};
 ghost use Rattle.chv_site.specs.Files.{FileState, settled, over_written, IsPut, IsCut, KeepsFiles, KeepsOthers, IsFrontOf};
+ghost use Rattle.chv_site.specs.Images.{Image, IsImage, IsLeft, IsLeftSaying, HasLengths};
+ghost use Rattle.chv_site.specs.During.{During};
 
 use crate::{Failed, FileId};
 
@@ -19,6 +21,12 @@ pub trait Site {
     /// The bytes said.
     ghost said: { Self → List ℕ };
 
+    /// The moment, as a number that does not fall. One clock serves files and console.
+    ghost moment: { Self → ℕ };
+
+    /// The files and the texts that a crash at some moment from that one on may have left.
+    ghost left_since: { Self → ℕ → Image → List ℕ → Type 0 };
+
     /// How often a call on files has failed.
     ghost disk_faults: { Self → ℕ };
 
@@ -30,6 +38,7 @@ pub trait Site {
         ensures size { tells → IfOk result (λ n. n ≡ length (state self.old f).bytes) }
         ensures files { tells → KeepsFiles (state self.old) (state self.new) }
         ensures said { tells → said self.new ≡ said self.old }
+        ensures during { tells → During moment left_since self.old self.new (IsLeft (state self.old) (said self.old)) }
         ensures failed { IsCounted (disk_faults self.old) (disk_faults self.new) result }
         ensures other_faults { say_faults self.new ≡ say_faults self.old };
 
@@ -41,6 +50,7 @@ pub trait Site {
         ensures bytes { tells → IfOk result (λ n. take n buf.new ≡ take n (drop at (state self.old f).bytes)) }
         ensures files { tells → KeepsFiles (state self.old) (state self.new) }
         ensures said { tells → said self.new ≡ said self.old }
+        ensures during { tells → During moment left_since self.old self.new (IsLeft (state self.old) (said self.old)) }
         ensures failed { IsCounted (disk_faults self.old) (disk_faults self.new) result }
         ensures other_faults { say_faults self.new ≡ say_faults self.old };
 
@@ -53,6 +63,7 @@ pub trait Site {
         ensures torn { tells → IsPut at (length bytes.now) (state self.old f) (state self.new f) }
         ensures others { tells → KeepsOthers f (state self.old) (state self.new) }
         ensures said { tells → said self.new ≡ said self.old }
+        ensures during { tells → During moment left_since self.old self.new (IsLeft (state self.new) (said self.old)) }
         ensures failed { IsCounted (disk_faults self.old) (disk_faults self.new) result }
         ensures other_faults { say_faults self.new ≡ say_faults self.old };
 
@@ -63,6 +74,7 @@ pub trait Site {
         ensures torn { tells → IsCut len (state self.old f) (state self.new f) }
         ensures others { tells → KeepsOthers f (state self.old) (state self.new) }
         ensures said { tells → said self.new ≡ said self.old }
+        ensures during { tells → During moment left_since self.old self.new (IsLeft (state self.new) (said self.old)) }
         ensures failed { IsCounted (disk_faults self.old) (disk_faults self.new) result }
         ensures other_faults { say_faults self.new ≡ say_faults self.old };
 
@@ -72,6 +84,7 @@ pub trait Site {
         ensures err { tells → OnErr result (state self.new f ≡ state self.old f) }
         ensures others { tells → KeepsOthers f (state self.old) (state self.new) }
         ensures said { tells → said self.new ≡ said self.old }
+        ensures during { tells → During moment left_since self.old self.new (IsLeft (state self.old) (said self.old)) }
         ensures failed { IsCounted (disk_faults self.old) (disk_faults self.new) result }
         ensures other_faults { say_faults self.new ≡ say_faults self.old };
 
@@ -81,6 +94,7 @@ pub trait Site {
         ensures torn { tells → IsCut 0 (state self.old f) (state self.new f) }
         ensures others { tells → KeepsOthers f (state self.old) (state self.new) }
         ensures said { tells → said self.new ≡ said self.old }
+        ensures during { tells → During moment left_since self.old self.new (IsLeft (state self.new) (said self.old)) }
         ensures failed { IsCounted (disk_faults self.old) (disk_faults self.new) result }
         ensures other_faults { say_faults self.new ≡ say_faults self.old };
 
@@ -89,6 +103,16 @@ pub trait Site {
         ensures said { tells → OnOk result (said self.new ≡ said self.old ++ bytes.now) }
         ensures err { tells → OnErr result (IsFrontOf bytes.now (said self.old) (said self.new)) }
         ensures files { tells → KeepsFiles (state self.old) (state self.new) }
+        ensures during { tells → During moment left_since self.old self.new (IsLeftSaying (state self.old) (said self.old) bytes.now) }
         ensures failed { IsCounted (say_faults self.old) (say_faults self.new) result }
         ensures other_faults { disk_faults self.new ≡ disk_faults self.old };
+
+    /// This moment is one of those since an earlier one.
+    ghost counts_now: { (s : Self) (t : ℕ) (image : Image) → t ≤ moment s → IsImage (state s) image → left_since s t image (said s) };
+
+    /// Since this moment there is no other.
+    ghost only_now: { (s : Self) (image : Image) (text : List ℕ) → left_since s (moment s) image text → IsLeft (state s) (said s) image text };
+
+    /// A crash may leave each file as long as it reads.
+    ghost reads: { (s : Self) (f : FileId) → HasLengths (state s f) };
 }

@@ -1,4 +1,4 @@
-use crate::{Failed, Fails, FileId, MemSite, MemSource, Site, Source};
+use crate::{Failed, Fails, FileId, MemSite, MemSource, Pick, Site, Source};
 use std::test::Fail;
 
 // A buffer of four takes five bytes in two pulls, and the second pull may fail once.
@@ -67,5 +67,43 @@ fn calls_fail_where_they_are_told_to(rt: HostRuntime) -> Result<(), Fail> {
     assert_eq!(rt; site.say(b"b"), Ok(()));
     assert_eq!(rt; site.file(log), b"a".as_slice());
     assert_eq!(rt; site.said(), b"b".as_slice());
+    Ok(())
+}
+
+// From the stop on, no call is done.
+#[test]
+fn a_stopped_site_fails_from_there_on(rt: HostRuntime) -> Result<(), Fail> {
+    let alloc = rt.alloc();
+    let mut site = MemSite::new(alloc, Fails::new(alloc));
+    site.stop_at(2);
+    assert_eq!(rt; site.say(b"a"), Ok(()));
+    assert_eq!(rt; site.say(b"b"), Err(Failed));
+    assert_eq!(rt; site.say(b"c"), Err(Failed));
+    assert_eq!(rt; site.said(), b"a".as_slice());
+    Ok(())
+}
+
+// "abc" is on the disk, and "XY" was put at 2: done in the first three rows, begun only in the others.
+#[test]
+fn a_crash_leaves_the_image_that_is_picked(rt: HostRuntime) -> Result<(), Fail> {
+    let alloc = rt.alloc();
+    let torn = Pick::Torn { byte: b'?' };
+    for (pick, failing, image) in [
+        (Pick::Old, 9, b"abc".as_slice()),
+        (Pick::New, 9, b"abXY".as_slice()),
+        (torn, 9, b"ab??".as_slice()),
+        (Pick::New, 3, b"abc".as_slice()),
+        (torn, 3, b"ab??".as_slice()),
+    ] {
+        let log = FileId::catalog_log();
+        let mut fails = Fails::new(alloc);
+        fails.push(failing)?;
+        let mut site = MemSite::new(alloc, fails);
+        assert_eq!(rt; site.put(log, 0, b"abc"), Ok(()));
+        assert_eq!(rt; site.sync(log), Ok(()));
+        let _ = site.put(log, 2, b"XY");
+        let left = site.crash(pick)?;
+        assert_eq!(rt; left.file(log), image);
+    }
     Ok(())
 }

@@ -1,0 +1,78 @@
+//! The program: the words, standard input, the folder of the store and the exit status.
+#![tactic(auto)]
+
+mod count;
+mod fault;
+mod file_place;
+mod folder;
+mod folder_site;
+mod std_source;
+#[cfg(test)]
+mod tests;
+mod transfer;
+
+ghost use Rattle.std.specs.Prelude.{◌≡◌, ◌⊎◌, IfErr};
+ghost use Rattle.std.specs.Process.{exit_status};
+ghost use Rattle.chviews.specs.Statuses.{exit_status_of};
+ghost use Rattle.chv_engine.specs.declared.Status.TheVariants as status;
+
+use chv_engine::{Status, Words, chviews};
+use fault::{Fault, fault_of};
+use folder_site::FolderSite;
+use std::os::unix::fs::FileExt;
+use std::process::ExitCode;
+use std::rt::{Env, Files};
+use std::{env, io};
+use std_source::StdSource;
+
+const USAGE: &str = "usage: chviews run < script.sql
+    runs the statements of a script on the store in ./chviews-data, and prints a reply to each";
+
+/// The words behind the program's name.
+fn words<R: Env + AllocGlobal>(rt: &R) -> Result<Words, Status>
+    ensures { IfErr result (λ e. (e ≡ status.BadWords) ⊎ (e ≡ status.NoMemory)) }
+{
+    let mut args = match env::args(rt) {
+        Ok(args) => args,
+        Err(e) if e.kind() == io::ErrorKind::InvalidData => return Err(Status::BadWords),
+        Err(_) => return Err(Status::NoMemory),
+    };
+    args.next();
+    match args.collect(rt.alloc()) {
+        Ok(items) => Ok(Words { items }),
+        Err(_) => Err(Status::NoMemory),
+    }
+}
+
+fn run<R: Env + Input + Files + Print + AllocGlobal>(rt: &R) -> Status
+where
+    R::File: FileExt,
+{
+    match words(rt) {
+        Ok(words) => {
+            let mut source = StdSource::new(rt.reader());
+            let mut site = FolderSite::new(rt);
+            chviews(rt.alloc(), &words, &mut source, &mut site)
+        }
+        Err(status) => status,
+    }
+}
+
+/// Ends with a status. Why a run did not come to its end is said on standard error, and where that
+/// fails, nobody is left to be told.
+fn end<R: Eprint>(rt: &R, status: Status) -> ExitCode
+    ensures { exit_status result ≡ exit_status_of status }
+{
+    if let Some(fault) = fault_of(status) {
+        let _ = eprintln!(rt; "chviews: {fault}");
+    }
+    if status == Status::BadWords {
+        let _ = eprintln!(rt; "{USAGE}");
+    }
+    ExitCode::from(status as u8)
+}
+
+fn main(rt: HostRuntime) -> ExitCode {
+    let status = run(&rt);
+    end(&rt, status)
+}
