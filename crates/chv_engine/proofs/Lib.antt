@@ -1,10 +1,16 @@
 pub mod BookLemmas
 pub mod CommitLemmas
+pub mod CrashLemmas
+pub mod CreateLemmas
+pub mod DeliveryLemmas
 pub mod FileLemmas
+pub mod InsertLemmas
 pub mod LexemeLemmas
 pub mod PullLemmas
 pub mod ResultLemmas
+pub mod RunLemmas
 pub mod ScriptLemmas
 pub mod StatementLemmas
+pub mod StepLemmas
 pub mod StoreLemmas
 pub mod TextLemmas

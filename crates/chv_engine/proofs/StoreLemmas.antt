@@ -3,18 +3,21 @@ use Rattle.std.proofs.Common.{◌≡◌, ℕ, ◌≤◌, List, [], ◌∷◌, �
 use Rattle.std.specs.Str.{bytes_eq}
 use Rattle.chv_site.specs.declared.file_id.FileId.{FileId}
 use Rattle.chv_site.specs.Files.{FileState, KeepsFiles}
+use Rattle.chv_site.specs.Images.{Image, IsImage, HasLengths}
+use Rattle.chv_site.proofs.Images.{reads_images}
 use Rattle.chv_gate.specs.GateLog.{IsReady, HasFrames}
-use Rattle.chv_gate.proofs.GateLogLemmas.{has_frames-IsReady}
-use Rattle.chv_engine.specs.Histories.{TableDef, Book, History, no_book, adds, PartsStand, catalog_payload, TableStands, Stands}
+use Rattle.chv_engine.specs.Histories.{TableDef, Book, History, no_book, adds, EachPart, catalog_payload, TableStands, Stands}
+use Rattle.chv_engine.specs.Parts.{part_file}
 use Rattle.chv_engine.specs.Replies.{refused_line}
 use Rattle.chv_engine.specs.Runs.{Moment, with_table, table_named, refuse, step, read_as, answered}
 use Rattle.chv_engine.specs.Script.{is_blank}
 use Rattle.chv_engine.specs.Statements.{Statement}
-use Rattle.chv_engine.specs.Stores.{TablesHaveRoom, HasRoom, HoldsBook, HoldsTables, Holds, IsAt}
+use Rattle.chv_engine.specs.Stores.{settled_part, TablesHaveRoom, HasRoom, HoldsBook, HoldsTables, Holds, IsAt}
 use Rattle.chv_engine.specs.declared.reply.Refusal.{Refusal}
 use Rattle.chv_engine.specs.declared.store.Store.{Store}
 use Rattle.chv_engine.specs.declared.table.Table.{Table}
-use Rattle.chv_engine.proofs.BookLemmas.{PartsStand-kept}
+use Rattle.chv_engine.proofs.BookLemmas.{EachPart-by}
+use Rattle.chv_engine.proofs.CrashLemmas.{parts_left, ready_left}
 
 -- the first table of a history is its only one, and its book is empty
 pub record IsFirstTable (name column : List ℕ) (history : History) : Type 0 where
@@ -44,7 +47,7 @@ holds_book_kept table old new book kept held = record {
   log = subst (λ (s : FileState). IsReady table.log.gate (adds 8 book.entries) s) (sym (kept table.log.file)) held.log;
   next = held.next;
   layout = held.layout;
-  parts = PartsStand-kept (λ f. (old f).bytes) (λ f. (new f).bytes) table.number 8 book.entries (λ p low high. ap (λ (s : FileState). s.bytes) (kept (record { table = table.number; part = p }))) held.parts;
+  parts = EachPart-by old new settled_part settled_part table.number 8 book.entries (λ p rows low high was. kept (record { table = table.number; part = p }) ∙ was) held.parts;
 }
 
 holds_tables_kept : (table : Option Table) (old new : FileId → FileState) (history : History) → KeepsFiles old new → HoldsTables table old history → HoldsTables table new history
@@ -55,7 +58,7 @@ pub holds_kept : (store : Store) (old new : FileId → FileState) (history : His
 holds_kept store old new history kept held = record {
   catalog = subst (λ (s : FileState). IsReady store.catalog.gate (map catalog_payload history.schema) s) (sym (kept store.catalog.file)) held.catalog;
   tables = holds_tables_kept store.table old new history kept held.tables;
-  others = λ t above. subst (λ (s : FileState). length s.bytes ≤ 1) (sym (kept (record { table = t; part = 0 }))) (held.others t above);
+  others = λ t above. subst (λ (s : FileState). s.most ≤ 1) (sym (kept (record { table = t; part = 0 }))) (held.others t above);
 }
 
 -- the text grows by a line
@@ -118,27 +121,32 @@ pub or_assoc : (a b c : Bool) → ((a || b) || c) ≡ (a || (b || c))
 or_assoc true b c = refl
 or_assoc false b c = refl
 
--- a table that holds a book stands for it
-table_stands : (table : Table) (files : FileId → FileState) (book : Book) → table.number ≡ 1 → table.log.file ≡ record { table = 1; part = 0 } → HoldsBook table files book
-    → TableStands (λ f. (files f).bytes) 1 book
-table_stands table files book first log held = record {
-  log = subst (λ (f : FileId). HasFrames (adds 8 book.entries) (files f).bytes) log (has_frames-IsReady table.log.gate (adds 8 book.entries) (files table.log.file) held.log);
+-- what a crash leaves of a table that holds a book stands for it
+table_left : (table : Table) (files : FileId → FileState) (image : Image) (book : Book) → table.number ≡ 1 → table.log.file ≡ record { table = 1; part = 0 } → HoldsBook table files book
+    → IsImage files image → TableStands image 1 book
+table_left table files image book first log held is = record {
+  log = subst (λ (f : FileId). HasFrames (adds 8 book.entries) (image f)) log (ready_left table.log.gate (adds 8 book.entries) (files table.log.file) (image table.log.file) held.log (is table.log.file));
   layout = held.layout;
-  parts = subst (λ (n : ℕ). PartsStand (λ f. (files f).bytes) n 8 book.entries) first held.parts;
+  parts = subst (λ (n : ℕ). EachPart image (part_file 1) n 8 book.entries) first
+      (parts_left files image table.number book.entries held.parts (λ p low high. is (record { table = table.number; part = p })));
 }
 
-tables_stand : (table : Option Table) (gate : ℕ) (files : FileId → FileState) (history : History) → TablesHaveRoom 0 gate table → HoldsTables table files history
-    → (t : ℕ) → 1 ≤ t → t ≤ length history.schema → TableStands (λ f. (files f).bytes) t (history.books t)
-tables_stand None gate files history room held t some within = absurd (omega (arith, some, within, ap length held))
-tables_stand (Some table) gate files history room held t some within =
+tables_left : (table : Option Table) (gate : ℕ) (files : FileId → FileState) (image : Image) (history : History) → TablesHaveRoom 0 gate table → HoldsTables table files history
+    → IsImage files image → (t : ℕ) → 1 ≤ t → t ≤ length history.schema → TableStands image t (history.books t)
+tables_left None gate files image history room held is t some within = absurd (omega (arith, some, within, ap length held))
+tables_left (Some table) gate files image history room held is t some within =
     let one : 1 ≡ t = omega (arith, some, within, ap length held.1) in
-    subst (λ (n : ℕ). TableStands (λ f. (files f).bytes) n (history.books n)) one (table_stands table files (history.books 1) room.number room.log held.2)
+    subst (λ (n : ℕ). TableStands image n (history.books n)) one (table_left table files image (history.books 1) room.number room.log held.2 is)
 
--- the files of a store that holds a history stand for it
-pub stands_for : (store : Store) (files : FileId → FileState) (history : History) → HasRoom 0 store → Holds store files history → Stands (λ f. (files f).bytes) history
-stands_for store files history room held = record {
-  catalog = subst (λ (f : FileId). HasFrames (map catalog_payload history.schema) (files f).bytes) room.catalog
-      (has_frames-IsReady store.catalog.gate (map catalog_payload history.schema) (files store.catalog.file) held.catalog);
-  tables = tables_stand store.table store.catalog.gate files history room.tables held.tables;
-  others = held.others;
+-- what a crash leaves of a store that holds a history stands for it
+pub image_stands : (store : Store) (files : FileId → FileState) (image : Image) (history : History) → HasRoom 0 store → Holds store files history → IsImage files image → Stands image history
+image_stands store files image history room held is = record {
+  catalog = subst (λ (f : FileId). HasFrames (map catalog_payload history.schema) (image f)) room.catalog
+      (ready_left store.catalog.gate (map catalog_payload history.schema) (files store.catalog.file) (image store.catalog.file) held.catalog (is store.catalog.file));
+  tables = tables_left store.table store.catalog.gate files image history room.tables held.tables is;
+  others = λ t above. let left = (is (record { table = t; part = 0 })).no_longer in omega (arith, left, held.others t above);
 }
+
+-- and so do the files as they read
+pub stands_for : (store : Store) (files : FileId → FileState) (history : History) → HasRoom 0 store → Holds store files history → ((f : FileId) → HasLengths (files f)) → Stands (λ f. (files f).bytes) history
+stands_for store files history room held lengths = image_stands store files (λ f. (files f).bytes) history room held (reads_images files lengths)

@@ -66,11 +66,15 @@ abbrev pub single_spans : ℕ → List Entry → List Span
 single_spans place [] = []
 single_spans place (entry ∷ entries) = record { lo = place; hi = place; level = 0 } ∷ single_spans (place + 1) entries
 
+-- each entry's part is what its rows make, the parts being numbered in order
+abbrev pub EachPart : {A : Type 0} → (FileId → A) → (Block → A) → ℕ → ℕ → List Entry → Type 0
+EachPart files made table part [] = Unit {0}
+EachPart files made table part (entry ∷ entries) =
+    (files (record { table = table; part = part }) ≡ made entry.rows) × EachPart files made table (part + 1) entries
+
 -- each entry's part holds its rows
 abbrev pub PartsStand : (FileId → List ℕ) → ℕ → ℕ → List Entry → Type 0
-PartsStand files table part [] = Unit {0}
-PartsStand files table part (entry ∷ entries) =
-    (files (record { table = table; part = part }) ≡ part_file 1 entry.rows) × PartsStand files table (part + 1) entries
+PartsStand files table part entries = EachPart files (part_file 1) table part entries
 
 -- a table's files stand for its book; the first part has the number 8
 pub record TableStands (files : FileId → List ℕ) (table : ℕ) (book : Book) : Type 0 where

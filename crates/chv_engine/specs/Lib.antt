@@ -1,5 +1,6 @@
 pub mod Blocks
 pub mod Commits
+pub mod Crashes
 pub mod Ends
 pub mod Faults
 pub mod Histories

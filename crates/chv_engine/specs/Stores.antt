@@ -1,9 +1,11 @@
 -- What a run holds of its store, beside the files and the history that they stand for.
 use Rattle.std.specs.Prelude.{ℕ, ◌≡◌, ◌≢◌, ◌+◌, ◌*◌, ◌^◌, ◌<◌, ◌≤◌, List, [], ◌∷◌, ◌++◌, length, map, Bool, true, false, Option, None, Some}
 use Rattle.chv_site.specs.declared.file_id.FileId.{FileId}
-use Rattle.chv_site.specs.Files.{FileState}
+use Rattle.chv_site.specs.Files.{FileState, settled}
 use Rattle.chv_gate.specs.GateLog.{IsReady}
-use Rattle.chv_engine.specs.Histories.{Book, History, no_history, adds, single_spans, PartsStand, Stands, catalog_payload}
+use Rattle.chv_engine.specs.Blocks.{Block}
+use Rattle.chv_engine.specs.Histories.{Book, History, no_history, adds, single_spans, EachPart, Stands, catalog_payload}
+use Rattle.chv_engine.specs.Parts.{part_file}
 use Rattle.chv_engine.specs.Runs.{Moment, begins, run}
 use Rattle.chv_engine.specs.Script.{pieces_of}
 use Rattle.chv_engine.specs.declared.store.Store.{Store}
@@ -45,12 +47,16 @@ pub record IsPlaced (store : Store) (files : FileId → FileState) : Type 0 wher
   pub catalog : store.catalog.gate < length (files store.catalog.file).bytes
   pub tables : AreTablesPlaced store.table files
 
+-- the file of a part, with nothing pending
+abbrev pub settled_part : Block → FileState
+settled_part rows = settled (part_file 1 rows)
+
 -- a table with its files stands for a book
 pub record HoldsBook (table : Table) (files : FileId → FileState) (book : Book) : Type 0 where
   pub log : IsReady table.log.gate (adds 8 book.entries) (files table.log.file)
   pub next : table.next_part ≡ 8 + length book.entries
   pub layout : book.layout ≡ single_spans 1 book.entries
-  pub parts : PartsStand (λ f. (files f).bytes) table.number 8 book.entries
+  pub parts : EachPart files settled_part table.number 8 book.entries
 
 -- the tables that are held are those of the history
 abbrev pub HoldsTables : Option Table → (FileId → FileState) → History → Type 0
@@ -62,7 +68,7 @@ HoldsTables (Some table) files history =
 pub record Holds (store : Store) (files : FileId → FileState) (history : History) : Type 0 where
   pub catalog : IsReady store.catalog.gate (map catalog_payload history.schema) (files store.catalog.file)
   pub tables : HoldsTables store.table files history
-  pub others : (table : ℕ) → length history.schema < table → length (files (record { table = table; part = 0 })).bytes ≤ 1
+  pub others : (table : ℕ) → length history.schema < table → (files (record { table = table; part = 0 })).most ≤ 1
 
 -- a store, its files, the text said and the mark of a refusal are those of a moment, `before` being the text said
 -- before the run; a store that is not read stands for nothing
@@ -71,9 +77,9 @@ pub record IsAt (store : Store) (files : FileId → FileState) (said before : Li
   pub text : said ≡ before ++ m.said
   pub mark : m.refused ≡ refused
 
--- nothing was written yet: the catalog's log and each table's are empty or one byte
+-- nothing was written yet: the catalog's log and each table's are empty or one byte, and a crash leaves no more of them
 abbrev pub IsNew : (FileId → FileState) → Type 0
-IsNew files = (table : ℕ) → length (files (record { table = table; part = 0 })).bytes ≤ 1
+IsNew files = (table : ℕ) → (files (record { table = table; part = 0 })).most ≤ 1
 
 -- how a run on a new store ends: the text said is that of its pieces, the files stand for the history that the accepted
 -- ones make, and the mark is that of a refusal
@@ -87,9 +93,3 @@ pub record EndsUnread (script : List ℕ) (old files : FileId → FileState) (be
   pub text : said ≡ before ++ (run false (pieces_of script) (begins no_history)).said
   pub kept : (f : FileId) → (files f).bytes ≡ (old f).bytes
   pub mark : (run false (pieces_of script) (begins no_history)).refused ≡ refused
-
--- a moment is reached from which the pieces that are left lead to a last one
-pub record Reaches (store : Store) (files : FileId → FileState) (said before : List ℕ) (refused : Bool) (left : List (List ℕ)) (last : Moment) : Type 0 where
-  pub moment : Moment
-  pub at : IsAt store files said before refused moment
-  pub onward : run store.readable left moment ≡ last

@@ -1,6 +1,8 @@
 // How a statement is answered.
-ghost use Rattle.std.specs.Prelude.{◌≡◌, ◌+◌, ◌||◌, List, ℕ, Bool, false, option_map, IfOk, IfSome, OnOk};
+ghost use Rattle.std.specs.Prelude.{◌≡◌, ◌+◌, ◌||◌, List, ℕ, Bool, true, false, option_map, IfOk, IfSome, OnOk};
 ghost use Rattle.chv_site.specs.Files.{KeepsFiles};
+ghost use Rattle.chv_site.specs.During.{During};
+ghost use Rattle.chv_engine.specs.Crashes.{IsLeftBetween};
 ghost use Rattle.chv_engine.specs.Faults.{IsCaused};
 ghost use Rattle.chv_engine.specs.Runs.{Moment, read_as, answered};
 ghost use Rattle.chv_engine.specs.Statements.{seen_statement, IsSized};
@@ -28,6 +30,10 @@ impl Store {
         ensures answered { W.tells → IfOk result (λ refused. (before : List ℕ) (mark : Bool) (m : Moment)
             → IsAt self.old (W.state site.old) (W.said site.old) before mark m
             → IsAt self.new (W.state site.new) (W.said site.new) before (mark || refused) (answered self.old.readable piece.now m)) }
+        // A crash at any moment of the call leaves what is between the two moments.
+        ensures during { W.tells → (before : List ℕ) (mark : Bool) (m : Moment) → self.old.readable ≡ true
+            → IsAt self.old (W.state site.old) (W.said site.old) before mark m
+            → During W.moment W.left_since site.old site.new (IsLeftBetween before m (answered self.old.readable piece.now m)) }
         ensures unread { W.tells → self.old.readable ≡ false → KeepsFiles (W.state site.old) (W.state site.new) }
         ensures readable { self.new.readable ≡ self.old.readable }
         ensures room { OnOk result ((n : ℕ) → HasRoom (n + 1) self.old → HasRoom n self.new) }

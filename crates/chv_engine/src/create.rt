@@ -1,5 +1,7 @@
 // CREATE TABLE.
 ghost use Rattle.std.specs.Prelude.{◌≡◌, ◌+◌, ◌≤◌, ◌||◌, List, ℕ, Bool, true, Some, None, length, IfOk, OnOk};
+ghost use Rattle.chv_site.specs.During.{During};
+ghost use Rattle.chv_engine.specs.Crashes.{EitherStands, IsLeftBetween};
 ghost use Rattle.chv_engine.specs.Faults.{IsCaused};
 ghost use Rattle.chv_engine.specs.Histories.{History};
 ghost use Rattle.chv_engine.specs.Runs.{Moment, step, with_table};
@@ -34,6 +36,10 @@ impl Store {
         ensures created { W.tells → IfOk result (λ refused. (before : List ℕ) (mark : Bool) (m : Moment) → self.old.readable ≡ true
             → IsAt self.old (W.state site.old) (W.said site.old) before mark m
             → IsAt self.new (W.state site.new) (W.said site.new) before (mark || refused) (step (Some (CreateTable name.now column.now)) m)) }
+        // A crash at any moment of the call leaves what is between the two moments.
+        ensures during { W.tells → (before : List ℕ) (mark : Bool) (m : Moment) → self.old.readable ≡ true
+            → IsAt self.old (W.state site.old) (W.said site.old) before mark m
+            → During W.moment W.left_since site.old site.new (IsLeftBetween before m (step (Some (CreateTable name.now column.now)) m)) }
         ensures readable { self.new.readable ≡ self.old.readable }
         ensures room { OnOk result ((n : ℕ) → HasRoom (n + 1) self.old → HasRoom n self.new) }
         ensures placed { W.tells → OnOk result (IsPlaced self.new (W.state site.new)) }
@@ -74,6 +80,9 @@ impl Store {
         ensures room { OnOk result ((n : ℕ) → HasRoom (n + 1) self.old → HasRoom n self.new) }
         ensures placed { W.tells → OnOk result (IsPlaced self.new (W.state site.new)) }
         ensures said { W.tells → W.said site.new ≡ W.said site.old }
+        // A crash at any moment of the call leaves the history from before it, with the table or without.
+        ensures during { W.tells → (history : History) → Holds self.old (W.state site.old) history → During W.moment W.left_since site.old site.new
+            (EitherStands history (with_table name.now column.now history) (W.said site.old)) }
         ensures faults { IsCaused (W.disk_faults site.old) (W.disk_faults site.new) (W.say_faults site.old) (W.say_faults site.new) result }
     {
         let text = create_text(alloc, name, column)?;

@@ -1,7 +1,9 @@
 // Files of parts.
 ghost use Rattle.std.specs.Prelude.{◌≡◌, ◌<◌, ◌^◌, length, OnOk};
 ghost use Rattle.chv_site.specs.Faults.{IsCounted};
+ghost use Rattle.chv_site.specs.During.{During};
 ghost use Rattle.chv_site.specs.Files.{settled, KeepsOthers};
+ghost use Rattle.chv_engine.specs.Crashes.{OthersLeft};
 
 use chv_site::{Failed, FileId, Site};
 
@@ -11,6 +13,7 @@ pub fn write_part<W: Site>(site: &mut W, f: FileId, bytes: &[u8]) -> Result<(), 
     ensures written { W.tells → OnOk result (W.state site.new f ≡ settled bytes.now) }
     ensures others { W.tells → KeepsOthers f (W.state site.old) (W.state site.new) }
     ensures said { W.tells → W.said site.new ≡ W.said site.old }
+    ensures during { W.tells → During W.moment W.left_since site.old site.new (OthersLeft f (W.state site.old) (W.said site.old)) }
     ensures failed { IsCounted (W.disk_faults site.old) (W.disk_faults site.new) result }
     ensures other_faults { W.say_faults site.new ≡ W.say_faults site.old }
 {

@@ -1,5 +1,7 @@
 // INSERT.
 ghost use Rattle.std.specs.Prelude.{◌≡◌, ◌+◌, ◌||◌, List, ℕ, Bool, true, Some, IfOk, OnOk};
+ghost use Rattle.chv_site.specs.During.{During};
+ghost use Rattle.chv_engine.specs.Crashes.{IsLeftBetween};
 ghost use Rattle.chv_engine.specs.Faults.{IsCaused};
 ghost use Rattle.chv_engine.specs.Runs.{Moment, step};
 ghost use Rattle.chv_engine.specs.Statements.{Insert};
@@ -26,6 +28,10 @@ impl Store {
         ensures inserted { W.tells → IfOk result (λ refused. (before : List ℕ) (mark : Bool) (m : Moment) → self.old.readable ≡ true
             → IsAt self.old (W.state site.old) (W.said site.old) before mark m
             → IsAt self.new (W.state site.new) (W.said site.new) before (mark || refused) (step (Some (Insert name.now value)) m)) }
+        // A crash at any moment of the call leaves what is between the two moments.
+        ensures during { W.tells → (before : List ℕ) (mark : Bool) (m : Moment) → self.old.readable ≡ true
+            → IsAt self.old (W.state site.old) (W.said site.old) before mark m
+            → During W.moment W.left_since site.old site.new (IsLeftBetween before m (step (Some (Insert name.now value)) m)) }
         ensures readable { self.new.readable ≡ self.old.readable }
         ensures room { OnOk result ((n : ℕ) → HasRoom (n + 1) self.old → HasRoom n self.new) }
         ensures placed { W.tells → OnOk result (IsPlaced self.new (W.state site.new)) }

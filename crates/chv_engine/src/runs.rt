@@ -156,3 +156,31 @@ fn a_script_has_at_most_64_mebibytes(rt: HostRuntime) -> Result<(), Fail> {
     }
     Ok(())
 }
+
+// The site is stopped at each call of a run, and then crashes: a row whose line was said is on the disk.
+#[test]
+fn an_acknowledged_row_survives_a_crash(rt: HostRuntime) -> Result<(), Fail> {
+    let alloc = rt.alloc();
+    let acknowledged = b"@0 Ok.\n@0 Ok. 1 written, 0 skipped\n".as_slice();
+    for call in 1..30 {
+        for pick in [
+            Pick::Old,
+            Pick::New,
+            Pick::Torn { byte: 0 },
+            Pick::Torn { byte: 1 },
+        ] {
+            let mut site = MemSite::new(alloc, Fails::new(alloc));
+            site.stop_at(call);
+            let status = run(alloc, &mut site, FIRST)?;
+            let said = site.said() == acknowledged;
+            assert_eq!(rt; status == Status::Done, said, "stopped at {call}");
+            let left = site.crash(pick)?;
+            let log = left.file(FileId::table_log(1));
+            let is_committed = log.len() == 43 && log.first() == Some(&1);
+            let part = left.file(FileId::part(1, 8));
+            assert!(rt; is_committed || !said, "stopped at {call}");
+            assert!(rt; part.len() == 45 || !is_committed, "stopped at {call}");
+        }
+    }
+    Ok(())
+}

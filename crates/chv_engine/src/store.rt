@@ -3,6 +3,8 @@ ghost use Rattle.std.specs.Prelude.{◌≡◌, ◌<◌, ◌≤◌, ◌^◌, ◌+
 ghost use Rattle.chv_site.specs.declared.file_id.FileId.{FileId};
 ghost use Rattle.chv_site.specs.Faults.{IsCounted};
 ghost use Rattle.chv_site.specs.Files.{KeepsFiles};
+ghost use Rattle.chv_site.specs.During.{During};
+ghost use Rattle.chv_engine.specs.Crashes.{StillNew};
 ghost use Rattle.chv_engine.specs.Histories.{no_history};
 ghost use Rattle.chv_engine.specs.Stores.{HasRoom, IsPlaced, Holds, IsNew};
 
@@ -24,6 +26,8 @@ pub struct Store {
 /// Opens the store: begins the catalog's log, and sees whether it is new.
 pub fn open_store<W: Site>(site: &mut W) -> Result<Store, Failed>
     ensures new { W.tells → IfOk result (λ store. IsNew (W.state site.old) → (store.readable ≡ true) × Holds store (W.state site.new) no_history) }
+    // A crash at any moment of the call leaves a new store new.
+    ensures during { W.tells → IsNew (W.state site.old) → During W.moment W.left_since site.old site.new (StillNew (W.said site.old)) }
     ensures unread { W.tells → 1 < length (W.state site.old (record { table = 0; part = 0 })).bytes
         → IfOk result (λ store. store.readable ≡ false) }
     ensures kept { W.tells → 1 < length (W.state site.old (record { table = 0; part = 0 })).bytes

@@ -1,7 +1,9 @@
 // One table while a run goes on.
 ghost use Rattle.std.specs.Prelude.{◌≡◌, ◌+◌, ◌∷◌, [], ℕ, length, IfOk, IfErr, OnOk};
 ghost use Rattle.std.specs.Str.{bytes_eq};
+ghost use Rattle.chv_site.specs.During.{During};
 ghost use Rattle.chv_engine.specs.Commits.{add_payload};
+ghost use Rattle.chv_engine.specs.Crashes.{DeliveryLeft};
 ghost use Rattle.chv_engine.specs.Faults.{IsCaused};
 ghost use Rattle.chv_gate.specs.GateLog.{frame_of};
 ghost use Rattle.chv_engine.specs.Histories.{Book, arrived, entry_of};
@@ -60,6 +62,9 @@ impl Table {
         ensures placed { W.tells → OnOk result (IsTablePlaced self.new (W.state site.new)) }
         ensures others { W.tells → KeepsTables self.old.number (W.state site.old) (W.state site.new) }
         ensures said { W.tells → W.said site.new ≡ W.said site.old }
+        // A crash at any moment of the call leaves the table's book from before it or after it.
+        ensures during { W.tells → (book : Book) → HoldsBook self.old (W.state site.old) book → During W.moment W.left_since site.old site.new
+            (DeliveryLeft self.old.number book (arrived (entry_of value) book) (W.state site.old) (W.said site.old)) }
         ensures faults { IsCaused (W.disk_faults site.old) (W.disk_faults site.new) (W.say_faults site.old) (W.say_faults site.new) result }
     {
         let delivery = spell_delivery(alloc, self.next_part, value)?;

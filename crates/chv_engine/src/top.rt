@@ -1,7 +1,12 @@
 // The whole call.
-ghost use Rattle.std.specs.Prelude.{◌≡◌, ◌≢◌, ◌⊎◌, ◌<◌, ◌≤◌, ◌^◌, [], length};
+ghost use Rattle.std.specs.Prelude.{◌≡◌, ◌≢◌, ◌⊎◌, ◌<◌, ◌≤◌, ◌^◌, [], true, length};
 ghost use Rattle.chv_site.specs.Faults.{HasRisen};
+ghost use Rattle.chv_site.specs.During.{During};
+ghost use Rattle.chv_engine.specs.Crashes.{IsLeftByRun};
 ghost use Rattle.chv_engine.specs.Ends.{IfEnded, EndsUnlessNoMemory, HasCause, PulledAs, LeavesSite};
+ghost use Rattle.chv_engine.specs.Histories.{no_history};
+ghost use Rattle.chv_engine.specs.Runs.{begins};
+ghost use Rattle.chv_engine.specs.Script.{pieces_of};
 ghost use Rattle.chv_engine.specs.Stores.{IsNew, EndsNew, EndsUnread};
 ghost use Rattle.chv_engine.specs.Words.{run_words};
 
@@ -36,6 +41,10 @@ pub fn chviews<S: Source, W: Site>(
     // On a new store it has said the replies of all pieces, and the files stand for the history that the accepted ones make.
     ensures new { S.tells → W.tells → IsNew (W.state site.old)
         → IfEnded result (EndsNew (S.left source.old) (W.state site.new) (W.said site.old) (W.said site.new)) }
+    // At any moment since the call began, whatever a crash leaves: the files stand for the history of a moment of the run and
+    // the text is that moment's; or the reply to the next is being said, and the files stand for the history behind it.
+    ensures during { S.tells → W.tells → IsNew (W.state site.old) → During W.moment W.left_since site.old site.new
+        (IsLeftByRun true (pieces_of (S.left source.old)) (W.said site.old) (begins no_history)) }
     // On a store with tables, which cannot be read yet, it has refused each piece and changed no file.
     ensures unread { S.tells → W.tells → 1 < length (W.state site.old (record { table = 0; part = 0 })).bytes
         → IfEnded result (EndsUnread (S.left source.old) (W.state site.old) (W.state site.new) (W.said site.old) (W.said site.new)) }
@@ -58,6 +67,8 @@ fn run<S: Source, W: Site>(alloc: Global, source: &mut S, site: &mut W) -> Statu
     ensures whole { S.tells → IfEnded result (λ refused. S.left source.new ≡ []) }
     ensures new { S.tells → W.tells → IsNew (W.state site.old)
         → IfEnded result (EndsNew (S.left source.old) (W.state site.new) (W.said site.old) (W.said site.new)) }
+    ensures during { S.tells → W.tells → IsNew (W.state site.old) → During W.moment W.left_since site.old site.new
+        (IsLeftByRun true (pieces_of (S.left source.old)) (W.said site.old) (begins no_history)) }
     ensures unread { S.tells → W.tells → 1 < length (W.state site.old (record { table = 0; part = 0 })).bytes
         → IfEnded result (EndsUnread (S.left source.old) (W.state site.old) (W.state site.new) (W.said site.old) (W.said site.new)) }
 {

@@ -42,7 +42,7 @@ pub begun_ready : (bytes : List ℕ) → length bytes ≤ 1 → IsReady 0 [] (se
 begun_ready bytes short = record { sized = All-nil IsPayload; whole = refl; place = refl; rest = begun bytes; split = refl; closed = closed_begun bytes short }
 
 -- bytes that are more than a single gate are not torn
-not_torn : (payloads : List (List ℕ)) (rest : List ℕ) → BeginsClosed rest → is_torn (open_frames payloads ++ rest) ≡ false
+pub not_torn : (payloads : List (List ℕ)) (rest : List ℕ) → BeginsClosed rest → is_torn (open_frames payloads ++ rest) ≡ false
 not_torn [] [] closed = absurd closed
 not_torn [] (gate ∷ []) closed = ne_eqb gate OPEN closed
 not_torn [] (gate ∷ next ∷ behind) closed = refl

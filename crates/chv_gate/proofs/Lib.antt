@@ -1,3 +1,5 @@
+pub mod CrashLemmas
+pub mod DuringLemmas
 pub mod GateLogLemmas
 pub mod ReadingLaws
 pub mod ReadingLemmas

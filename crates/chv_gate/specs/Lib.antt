@@ -1,2 +1,3 @@
+pub mod Crashes
 pub mod GateLog
 pub mod Reading

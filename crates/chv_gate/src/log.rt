@@ -2,7 +2,9 @@
 ghost use Rattle.std.specs.Prelude.{◌≡◌, ◌+◌, ◌^◌, ◌<◌, ◌++◌, [], ◌∷◌, List, ℕ, length, OnOk};
 ghost use Rattle.chv_site.specs.Faults.{IsCounted};
 ghost use Rattle.chv_site.specs.Files.{KeepsOthers};
+ghost use Rattle.chv_site.specs.During.{During};
 ghost use Rattle.chv_gate.specs.GateLog.{IsPayload, IsReady, frame_of};
+ghost use Rattle.chv_gate.specs.Crashes.{IsLeftWith, HasFramesOrMore};
 
 use crate::framing::OPEN;
 use crate::writing::write_synced;
@@ -31,6 +33,10 @@ impl Log {
         ensures appended { W.tells → OnOk result ((payloads : List (List ℕ)) (payload : List ℕ)
             → IsReady self.old.gate payloads (W.state site.old self.old.file) → IsPayload payload → frame.now ≡ frame_of payload
             → IsReady self.new.gate (payloads ++ payload ∷ []) (W.state site.new self.old.file)) }
+        // A crash at any moment of the call leaves the frames from before it, with the new one or without.
+        ensures during { W.tells → (payloads : List (List ℕ)) (payload : List ℕ)
+            → IsReady self.old.gate payloads (W.state site.old self.old.file) → IsPayload payload → frame.now ≡ frame_of payload
+            → During W.moment W.left_since site.old site.new (IsLeftWith self.old.file (HasFramesOrMore payloads payload) (W.state site.old) (W.said site.old)) }
         ensures placed { W.tells → OnOk result (self.new.gate < length (W.state site.new self.old.file).bytes) }
         ensures file { self.new.file ≡ self.old.file }
         ensures gate { OnOk result (self.new.gate ≡ self.old.gate + length frame.now) }

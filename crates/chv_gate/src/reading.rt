@@ -2,6 +2,8 @@
 ghost use Rattle.std.specs.Prelude.{◌≡◌, ◌≤◌, ◌<◌, ◌+◌, ◌^◌, ℕ, length, IfOk, IfErr, IfSome, IsNone, IsErrOf};
 ghost use Rattle.chv_site.specs.Faults.{HasRisen};
 ghost use Rattle.chv_site.specs.Files.{KeepsFiles};
+ghost use Rattle.chv_site.specs.Images.{IsLeft};
+ghost use Rattle.chv_site.specs.During.{During};
 ghost use Rattle.chv_gate.specs.Reading.{Reads, IsDamage, GoesOn, HasLength, IsAnnounced};
 
 use crate::GateFault;
@@ -29,6 +31,7 @@ pub fn step<W: Site>(
     ensures read { W.tells → IfOk result (λ read. Reads gate (W.state site.old f).bytes read) }
     ensures damaged { W.tells → IfErr result (λ fault. IsDamage gate (W.state site.old f).bytes fault) }
     ensures forward { IfOk result (λ read. GoesOn gate read) }
+    ensures during { W.tells → During W.moment W.left_since site.old site.new (IsLeft (W.state site.old) (W.said site.old)) }
     ensures files { W.tells → KeepsFiles (W.state site.old) (W.state site.new) }
     ensures said { W.tells → W.said site.new ≡ W.said site.old }
     ensures faults { W.disk_faults site.old ≤ W.disk_faults site.new }
@@ -80,6 +83,7 @@ fn read_body<W: Site>(
     ensures read { W.tells → IfOk result (λ read. Reads gate (W.state site.old f).bytes read) }
     ensures damaged { W.tells → IfErr result (λ fault. IsDamage gate (W.state site.old f).bytes fault) }
     ensures forward { IfOk result (λ read. GoesOn gate read) }
+    ensures during { W.tells → During W.moment W.left_since site.old site.new (IsLeft (W.state site.old) (W.said site.old)) }
     ensures files { W.tells → KeepsFiles (W.state site.old) (W.state site.new) }
     ensures said { W.tells → W.said site.new ≡ W.said site.old }
     ensures faults { W.disk_faults site.old ≤ W.disk_faults site.new }

@@ -48,13 +48,13 @@ fn sync_names<R: Files>(rt: &R, folder: &str) -> io::Result<()> {
 
 /// The folder `chviews-data` of the working folder, which is made with the first file.
 ///
-/// No file stays open between two calls. Where standard output is closed, one that did would get its
-/// number from the system, and the replies would go into it.
+/// No file stays open between two calls: where standard output is closed, one that did could take its
+/// number, and the replies would go into the file. Opening takes a hundredth of the time of a sync.
 #[derive(Drop)]
 pub struct Folder<'a, R> {
     rt: &'a R,
-    /// Whether the disk has the folder's name, and the names in it. At first neither is known, since
-    /// an earlier run may have been stopped before its sync.
+    /// Whether the disk has the folder's own name, and the names in the folder. At first neither is
+    /// known, since an earlier run may have been stopped before its sync.
     is_synced: bool,
     names_are_synced: bool,
 }

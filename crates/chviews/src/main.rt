@@ -17,7 +17,7 @@ ghost use Rattle.chviews.specs.Statuses.{exit_status_of};
 ghost use Rattle.chv_engine.specs.declared.Status.TheVariants as status;
 
 use chv_engine::{Status, Words, chviews};
-use fault::{Fault, fault_of};
+use fault::fault_of;
 use folder_site::FolderSite;
 use std::os::unix::fs::FileExt;
 use std::process::ExitCode;

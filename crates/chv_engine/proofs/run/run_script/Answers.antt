@@ -2,6 +2,10 @@
 use Rattle.std.proofs.Common.{◌≡◌, ℕ, List, Bool, true, false, ◌||◌, refl, sym, ap, subst, ◌∙◌}
 use Rattle.std.proofs.lemmas.List.{append-nil}
 use Rattle.chv_site.specs.Files.{FileState, KeepsFiles}
+use Rattle.chv_site.specs.During.{During}
+use Rattle.chv_site.proofs.Moments.{weakened, goes_on}
+use Rattle.chv_engine.specs.Crashes.{IsLeftByRun, StillNew}
+use Rattle.chv_engine.proofs.RunLemmas.{new_left}
 use Rattle.chv_engine.specs.Histories.{no_history}
 use Rattle.chv_engine.specs.Runs.{Moment, begins, run}
 use Rattle.chv_engine.specs.Script.{pieces_of}
@@ -34,7 +38,7 @@ returns-clause-new g c = λ tells new.
     let at : IsAt last files text before refused end = subst (λ (m : Moment). IsAt last files text before refused m) is_end (does before false (begins no_history) start) in
     record {
       text = at.text;
-      stands = stands_for last files end.history room (at.holds (c.answer_all.ensures.readable ∙ opening.0));
+      stands = stands_for last files end.history room (at.holds (c.answer_all.ensures.readable ∙ opening.0)) (λ f. g.met.W.Site.reads c.answer_all.new.site f);
       mark = at.mark;
     })
     c.answer_all.ensures.room (c.answer_all.ensures.answered tells)
@@ -68,3 +72,33 @@ returns-clause-unread g c = λ tells old_store.
       mark = at.mark;
     })
     (c.answer_all.ensures.unread tells unread) (c.answer_all.ensures.answered tells)
+
+-- what opening leaves, and then what the pieces leave
+pub returns-in_err-store-clause-during : goal.returns-in_err-store-clause-during
+returns-in_err-store-clause-during g c = λ tells new.
+    let S = g.W.Site in
+    let site = c.args.site.now in
+    let pieces = pieces_of c.args.script.now in
+    weakened S.moment S.left_since site c.open_store.new.site (StillNew (S.said site)) (IsLeftByRun true pieces (S.said site) (begins no_history)) (c.in_err-store.ensures.during tells new)
+    (λ image text left. new_left true pieces (S.said site) image text left)
+
+pub returns-clause-during : goal.returns-clause-during
+returns-clause-during g c = λ tells new.
+    let S = g.W.Site in
+    let site = c.args.site.now in
+    let before = S.said site in
+    let store = c.in_ok-store.store in
+    let pieces = pieces_of c.args.script.now in
+    let opening = c.in_ok-store.ensures.new tells new in
+    let start : IsAt store (S.state c.open_store.new.site) (S.said c.open_store.new.site) before false (begins no_history) = record {
+      holds = λ readable. opening.1;
+      text = c.in_ok-store.ensures.said tells ∙ sym (append-nil before);
+      mark = refl;
+    } in
+    let first = weakened S.moment S.left_since site c.open_store.new.site (StillNew before) (IsLeftByRun true pieces before (begins no_history)) (c.in_ok-store.ensures.during tells new)
+    (λ image text left. new_left true pieces before image text left) in
+    let second : During S.moment S.left_since c.open_store.new.site c.answer_all.new.site (IsLeftByRun true pieces before (begins no_history)) =
+    subst (λ (b : Bool). During S.moment S.left_since c.open_store.new.site c.answer_all.new.site (IsLeftByRun b pieces before (begins no_history))) opening.0
+    (c.answer_all.ensures.during tells before false (begins no_history) opening.0 start) in
+    goes_on S.moment S.left_since site c.open_store.new.site c.answer_all.new.site (IsLeftByRun true pieces before (begins no_history)) (IsLeftByRun true pieces before (begins no_history)) first second
+    (λ image text left. left)

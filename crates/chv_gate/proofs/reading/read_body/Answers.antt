@@ -1,5 +1,7 @@
 use Rattle.std.proofs.Common.{◌≡◌, ◌+◌, ◌++◌, ℕ, length, take, drop, sym, ◌∙◌, ap, subst, arith}
 use Rattle.std.proofs.lemmas.List.{take_at, take_all}
+use Rattle.chv_site.specs.Images.{IsLeft}
+use Rattle.chv_site.proofs.Moments.{started}
 use Rattle.chv_gate.proofs.GateLogLemmas.{length-frame_of}
 use Rattle.chv_gate.proofs.ReadingLemmas.{followed}
 use Rattle.chv_gate.proofs.reading.read_body.Goals as goal
@@ -31,3 +33,19 @@ returns-clause-forward g c =
       record { some = omega (arith, long, c.requires.sized.0); most = omega (arith, long, c.requires.sized.1) },
       omega (arith, long, length-frame_of payload),
     )
+
+-- there was no memory, and no call of the site
+pub returns-in_err-payload-clause-during : goal.returns-in_err-payload-clause-during
+returns-in_err-payload-clause-during g c tells =
+    let S = g.W.Site in
+    let site = c.args.site.now in
+    started S.moment S.left_since site (IsLeft (S.state site) (S.said site)) (λ image text left. g.met.W.Site.only_now site image text left)
+
+pub returns-in_err-count-clause-during : goal.returns-in_err-count-clause-during
+returns-in_err-count-clause-during g c tells = c.fetch.ensures.during tells
+
+pub returns-then-count-len-clause-during : goal.returns-then-count-len-clause-during
+returns-then-count-len-clause-during g c tells = c.fetch.ensures.during tells
+
+pub returns-clause-during : goal.returns-clause-during
+returns-clause-during g c tells = c.fetch.ensures.during tells

@@ -1,6 +1,7 @@
 use Rattle.std.proofs.Common.{◌≡◌, ◌-◌, min, ℕ, List, length, take, drop, refl, sym, ◌∙◌, ap, subst, arith}
 use Rattle.chv_site.specs.Files.{FileState}
 use Rattle.chv_gate.specs.Reading.{HasLength, IsAnnounced}
+use Rattle.chv_gate.proofs.DuringLemmas.{during_reads}
 use Rattle.chv_gate.proofs.ReadingLemmas.{opened, announced, has_length}
 use Rattle.chv_gate.proofs.reading.step.Goals as goal
 
@@ -35,3 +36,32 @@ returns-in-None-clause-damaged g c tells =
           (subst (λ (n : ℕ). HasLength (length payload) (take (count - 1) (drop 1 head)) (n - gate - 1)) (sym size)
           (has_length gate count payload next head file (counts ∙ ap (λ (l : List ℕ). min 5 (length l - gate)) same) read follows)),
     )
+
+pub returns-in_err-file_size-clause-during : goal.returns-in_err-file_size-clause-during
+returns-in_err-file_size-clause-during g c tells = c.size.ensures.during tells
+
+pub returns-then-file_size-le1-clause-during : goal.returns-then-file_size-le1-clause-during
+returns-then-file_size-le1-clause-during g c tells = c.size.ensures.during tells
+
+pub returns-in_err-count-clause-during : goal.returns-in_err-count-clause-during
+returns-in_err-count-clause-during g c tells =
+    let S = g.W.Site in
+    during_reads S.moment S.left_since S.state S.said c.args.site.now c.size.new.self c.fetch.new.self (c.size.ensures.files tells) (c.size.ensures.said tells) (c.size.ensures.during tells) (c.fetch.ensures.during tells)
+
+pub returns-then-count-eq0-clause-during : goal.returns-then-count-eq0-clause-during
+returns-then-count-eq0-clause-during g c tells =
+    let S = g.W.Site in
+    during_reads S.moment S.left_since S.state S.said c.args.site.now c.size.new.self c.fetch.new.self (c.size.ensures.files tells) (c.size.ensures.said tells) (c.size.ensures.during tells) (c.fetch.ensures.during tells)
+
+pub returns-in-None-clause-during : goal.returns-in-None-clause-during
+returns-in-None-clause-during g c tells =
+    let S = g.W.Site in
+    during_reads S.moment S.left_since S.state S.said c.args.site.now c.size.new.self c.fetch.new.self (c.size.ensures.files tells) (c.size.ensures.said tells) (c.size.ensures.during tells) (c.fetch.ensures.during tells)
+
+pub returns-in-Some-clause-during : goal.returns-in-Some-clause-during
+returns-in-Some-clause-during g c tells =
+    let S = g.W.Site in
+    let head =
+    during_reads S.moment S.left_since S.state S.said c.args.site.now c.size.new.self c.fetch.new.self (c.size.ensures.files tells) (c.size.ensures.said tells) (c.size.ensures.during tells) (c.fetch.ensures.during tells) in
+    during_reads S.moment S.left_since S.state S.said c.args.site.now c.fetch.new.self c.read_body.new.site (λ f. c.fetch.ensures.files tells f ∙ c.size.ensures.files tells f) (c.fetch.ensures.said tells ∙ c.size.ensures.said tells) head
+    (c.read_body.ensures.during tells)

@@ -2,6 +2,11 @@
 use Rattle.std.proofs.Common.{◌≡◌, ◌≢◌, ℕ, ◌≤◌, List, [], ◌∷◌, length, map, Option, refl, sym, ap, subst, ◌∙◌, arith}
 use Rattle.chv_site.specs.declared.file_id.FileId.{FileId}
 use Rattle.chv_site.specs.Files.{FileState, settled}
+use Rattle.chv_site.specs.During.{During}
+use Rattle.chv_site.proofs.Moments.{started, weakened, goes_on}
+use Rattle.chv_gate.specs.Crashes.{IsLeftWith, HasFramesOrMore}
+use Rattle.chv_engine.specs.Crashes.{EitherStands}
+use Rattle.chv_engine.proofs.CreateLemmas.{none_made, log_begun, text_appended}
 use Rattle.chv_gate.specs.GateLog.{IsReady, begun, frame_of}
 use Rattle.chv_gate.specs.declared.log.Log.{Log}
 use Rattle.chv_gate.proofs.GateLogLemmas.{begun_ready}
@@ -9,7 +14,7 @@ use Rattle.chv_engine.specs.Histories.{TableDef, Book, no_book, catalog_payload}
 use Rattle.chv_engine.specs.Runs.{with_table}
 use Rattle.chv_engine.specs.Stores.{HoldsTables, HoldsBook}
 use Rattle.chv_engine.specs.declared.table.Table.{Table}
-use Rattle.chv_engine.proofs.StoreLemmas.{first_table}
+use Rattle.chv_engine.proofs.StoreLemmas.{first_table, has_room-less}
 use Rattle.chv_engine.proofs.TextLemmas.{IsPayload-create_text}
 use Rattle.chv_engine.proofs.store.Store.create_table.Goals as goal
 
@@ -34,7 +39,7 @@ returns-clause-created g c = λ tells history held.
     (subst (λ (defs : List TableDef). IsReady c.args.self.now.catalog.gate (map catalog_payload defs) (before catalog)) none held.catalog) in
     let appended = c.in_ok-append.ensures.appended tells [] (catalog_payload (record { name = name; column = column })) ready (IsPayload-create_text name column c.requires.names.0 c.requires.names.1)
     (c.deref-2.ensures.value ∙ c.in_ok-frame.ensures ∙ ap frame_of (c.deref.ensures.value ∙ c.in_ok-text.ensures)) in
-    let short : length (before log).bytes ≤ 1 = held.others 1 (omega (arith, ap length none)) in
+    let short : length (before log).bytes ≤ 1 = let most = held.others 1 (omega (arith, ap length none)) in let reads = (g.met.W.Site.reads c.args.site.now log).no_longer in omega (arith, most, reads) in
     let begun_log : behind log ≡ settled (begun (before log).bytes) =
     c.in_ok-append.ensures.others tells log (apart 1 (omega arith))
     ∙ ap between (sym log_is) ∙ c.in_ok-begin.ensures.begun tells ∙ ap (λ (f : FileId). settled (begun (before f).bytes)) log_is in
@@ -52,7 +57,126 @@ returns-clause-created g c = λ tells history held.
       others = λ t above.
           let far : 2 ≤ t = omega (arith, above, ap length first.schema) in
           let apart_log : record { table = t; part = 0 } ≢ c.table_log-file.result = λ same. let e : t ≡ 1 = ap (λ (f : FileId). f.table) (same ∙ log_is) in omega (arith, far, e) in
-          subst (λ (s : FileState). length s.bytes ≤ 1)
+          subst (λ (s : FileState). s.most ≤ 1)
           (sym (c.in_ok-append.ensures.others tells (record { table = t; part = 0 }) (apart t (omega (arith, far))) ∙ c.in_ok-begin.ensures.others tells (record { table = t; part = 0 }) apart_log))
           (held.others t (omega (arith, far, ap length none)));
     }
+
+pub returns-in_err-text-clause-during : goal.returns-in_err-text-clause-during
+returns-in_err-text-clause-during g c = λ tells history held.
+    let S = g.W.Site in
+    let site = c.args.site.now in
+    let self = c.args.self.now in
+    let none : history.schema ≡ [] = subst (λ (t : Option Table). HoldsTables t (S.state site) history) c.requires.first held.tables in
+    started S.moment S.left_since site (EitherStands history (with_table c.args.name.now c.args.column.now history) (S.said site))
+    (λ image text left. none_made self (S.state site) history c.args.name.now c.args.column.now (has_room-less 1 0 self (omega arith) c.requires.room) held none (S.said site) image text (g.met.W.Site.only_now site image text left))
+
+pub returns-in_err-frame-clause-during : goal.returns-in_err-frame-clause-during
+returns-in_err-frame-clause-during g c = λ tells history held.
+    let S = g.W.Site in
+    let site = c.args.site.now in
+    let self = c.args.self.now in
+    let none : history.schema ≡ [] = subst (λ (t : Option Table). HoldsTables t (S.state site) history) c.requires.first held.tables in
+    started S.moment S.left_since site (EitherStands history (with_table c.args.name.now c.args.column.now history) (S.said site))
+    (λ image text left. none_made self (S.state site) history c.args.name.now c.args.column.now (has_room-less 1 0 self (omega arith) c.requires.room) held none (S.said site) image text (g.met.W.Site.only_now site image text left))
+
+pub returns-in_err-name-clause-during : goal.returns-in_err-name-clause-during
+returns-in_err-name-clause-during g c = λ tells history held.
+    let S = g.W.Site in
+    let site = c.args.site.now in
+    let self = c.args.self.now in
+    let none : history.schema ≡ [] = subst (λ (t : Option Table). HoldsTables t (S.state site) history) c.requires.first held.tables in
+    started S.moment S.left_since site (EitherStands history (with_table c.args.name.now c.args.column.now history) (S.said site))
+    (λ image text left. none_made self (S.state site) history c.args.name.now c.args.column.now (has_room-less 1 0 self (omega arith) c.requires.room) held none (S.said site) image text (g.met.W.Site.only_now site image text left))
+
+pub returns-in_err-begin-clause-during : goal.returns-in_err-begin-clause-during
+returns-in_err-begin-clause-during g c = λ tells history held.
+    let S = g.W.Site in
+    let site = c.args.site.now in
+    let self = c.args.self.now in
+    let name = c.args.name.now in
+    let column = c.args.column.now in
+    let log : FileId = record { table = 1; part = 0 } in
+    let before = S.state site in
+    let between = S.state c.begin.new.site in
+    let log_is : c.table_log-file.result ≡ log = c.table_log-file.ensures in
+    let room = has_room-less 1 0 self (omega arith) c.requires.room in
+    let none : history.schema ≡ [] = subst (λ (t : Option Table). HoldsTables t before history) c.requires.first held.tables in
+    let P = EitherStands history (with_table name column history) (S.said site) in
+    let most : (before c.table_log-file.result).most ≤ 1 = subst (λ (f : FileId). (before f).most ≤ 1) (sym log_is) (held.others 1 (omega (arith, ap length none))) in
+    let first : During S.moment S.left_since site c.begin.new.site P =
+    weakened S.moment S.left_since site c.begin.new.site (IsLeftWith c.table_log-file.result (λ (bytes : List ℕ). length bytes ≤ 1) before (S.said site)) P
+    (c.in_err-begin.ensures.short tells most)
+    (λ image text left. log_begun self before history name column room held none (S.said site) image text
+    (subst (λ (f : FileId). IsLeftWith f (λ (bytes : List ℕ). length bytes ≤ 1) before (S.said site) image text) log_is left)) in
+    first
+
+pub returns-in_err-append-clause-during : goal.returns-in_err-append-clause-during
+returns-in_err-append-clause-during g c = λ tells history held.
+    let S = g.W.Site in
+    let site = c.args.site.now in
+    let self = c.args.self.now in
+    let name = c.args.name.now in
+    let column = c.args.column.now in
+    let log : FileId = record { table = 1; part = 0 } in
+    let before = S.state site in
+    let between = S.state c.begin.new.site in
+    let log_is : c.table_log-file.result ≡ log = c.table_log-file.ensures in
+    let room = has_room-less 1 0 self (omega arith) c.requires.room in
+    let none : history.schema ≡ [] = subst (λ (t : Option Table). HoldsTables t before history) c.requires.first held.tables in
+    let P = EitherStands history (with_table name column history) (S.said site) in
+    let most : (before c.table_log-file.result).most ≤ 1 = subst (λ (f : FileId). (before f).most ≤ 1) (sym log_is) (held.others 1 (omega (arith, ap length none))) in
+    let first : During S.moment S.left_since site c.begin.new.site P =
+    weakened S.moment S.left_since site c.begin.new.site (IsLeftWith c.table_log-file.result (λ (bytes : List ℕ). length bytes ≤ 1) before (S.said site)) P
+    (c.in_ok-begin.ensures.short tells most)
+    (λ image text left. log_begun self before history name column room held none (S.said site) image text
+    (subst (λ (f : FileId). IsLeftWith f (λ (bytes : List ℕ). length bytes ≤ 1) before (S.said site) image text) log_is left)) in
+    let catalog = self.catalog.file in
+    let apart : log ≢ catalog = λ same. let e : 1 ≡ 0 = ap (λ (f : FileId). f.table) (same ∙ c.requires.room.catalog) in omega (arith, e) in
+    let kept : (f : FileId) → f ≢ log → between f ≡ before f = λ f other. c.in_ok-begin.ensures.others tells f (λ same. other (same ∙ log_is)) in
+    let begun_log : between log ≡ settled (begun (before log).bytes) =
+    ap between (sym log_is) ∙ c.in_ok-begin.ensures.begun tells ∙ ap (λ (f : FileId). settled (begun (before f).bytes)) log_is in
+    let short : length (before log).bytes ≤ 1 = let m = held.others 1 (omega (arith, ap length none)) in let reads = (g.met.W.Site.reads site log).no_longer in omega (arith, m, reads) in
+    let payload = catalog_payload (record { name = name; column = column }) in
+    let ready : IsReady self.catalog.gate [] (between catalog) =
+    subst (λ (s : FileState). IsReady self.catalog.gate [] s) (sym (kept catalog (λ same. apart (sym same))))
+    (subst (λ (defs : List TableDef). IsReady self.catalog.gate (map catalog_payload defs) (before catalog)) none held.catalog) in
+    let second = c.in_err-append.ensures.during tells [] payload ready (IsPayload-create_text name column c.requires.names.0 c.requires.names.1)
+    (c.deref-2.ensures.value ∙ c.in_ok-frame.ensures ∙ ap frame_of (c.deref.ensures.value ∙ c.in_ok-text.ensures)) in
+    goes_on S.moment S.left_since site c.begin.new.site c.append.new.site P (IsLeftWith catalog (HasFramesOrMore [] payload) between (S.said c.begin.new.site)) first second
+    (λ image text left. text_appended self before history name column room held none between kept begun_log short (S.said site) image text (left.0, left.1, left.2 ∙ c.in_ok-begin.ensures.said tells))
+
+pub returns-clause-during : goal.returns-clause-during
+returns-clause-during g c = λ tells history held.
+    let S = g.W.Site in
+    let site = c.args.site.now in
+    let self = c.args.self.now in
+    let name = c.args.name.now in
+    let column = c.args.column.now in
+    let log : FileId = record { table = 1; part = 0 } in
+    let before = S.state site in
+    let between = S.state c.begin.new.site in
+    let log_is : c.table_log-file.result ≡ log = c.table_log-file.ensures in
+    let room = has_room-less 1 0 self (omega arith) c.requires.room in
+    let none : history.schema ≡ [] = subst (λ (t : Option Table). HoldsTables t before history) c.requires.first held.tables in
+    let P = EitherStands history (with_table name column history) (S.said site) in
+    let most : (before c.table_log-file.result).most ≤ 1 = subst (λ (f : FileId). (before f).most ≤ 1) (sym log_is) (held.others 1 (omega (arith, ap length none))) in
+    let first : During S.moment S.left_since site c.begin.new.site P =
+    weakened S.moment S.left_since site c.begin.new.site (IsLeftWith c.table_log-file.result (λ (bytes : List ℕ). length bytes ≤ 1) before (S.said site)) P
+    (c.in_ok-begin.ensures.short tells most)
+    (λ image text left. log_begun self before history name column room held none (S.said site) image text
+    (subst (λ (f : FileId). IsLeftWith f (λ (bytes : List ℕ). length bytes ≤ 1) before (S.said site) image text) log_is left)) in
+    let catalog = self.catalog.file in
+    let apart : log ≢ catalog = λ same. let e : 1 ≡ 0 = ap (λ (f : FileId). f.table) (same ∙ c.requires.room.catalog) in omega (arith, e) in
+    let kept : (f : FileId) → f ≢ log → between f ≡ before f = λ f other. c.in_ok-begin.ensures.others tells f (λ same. other (same ∙ log_is)) in
+    let begun_log : between log ≡ settled (begun (before log).bytes) =
+    ap between (sym log_is) ∙ c.in_ok-begin.ensures.begun tells ∙ ap (λ (f : FileId). settled (begun (before f).bytes)) log_is in
+    let short : length (before log).bytes ≤ 1 = let m = held.others 1 (omega (arith, ap length none)) in let reads = (g.met.W.Site.reads site log).no_longer in omega (arith, m, reads) in
+    let payload = catalog_payload (record { name = name; column = column }) in
+    let ready : IsReady self.catalog.gate [] (between catalog) =
+    subst (λ (s : FileState). IsReady self.catalog.gate [] s) (sym (kept catalog (λ same. apart (sym same))))
+    (subst (λ (defs : List TableDef). IsReady self.catalog.gate (map catalog_payload defs) (before catalog)) none held.catalog) in
+    let second = c.in_ok-append.ensures.during tells [] payload ready (IsPayload-create_text name column c.requires.names.0 c.requires.names.1)
+    (c.deref-2.ensures.value ∙ c.in_ok-frame.ensures ∙ ap frame_of (c.deref.ensures.value ∙ c.in_ok-text.ensures)) in
+    goes_on S.moment S.left_since site c.begin.new.site c.append.new.site P (IsLeftWith catalog (HasFramesOrMore [] payload) between (S.said c.begin.new.site)) first second
+    (λ image text left. text_appended self before history name column room held none between kept begun_log short (S.said site) image text (left.0, left.1, left.2 ∙ c.in_ok-begin.ensures.said tells))
