@@ -6,6 +6,8 @@ pub mod DeliveryLemmas
 pub mod FileLemmas
 pub mod InsertLemmas
 pub mod LexemeLemmas
+pub mod PartLemmas
+pub mod PrefixLemmas
 pub mod PullLemmas
 pub mod ResultLemmas
 pub mod RunLemmas

@@ -5,14 +5,21 @@ mod answer;
 mod block;
 mod commit;
 mod create;
+mod define;
 mod fault;
 mod files;
 mod insert;
 mod lex;
 mod parse;
 mod part;
+mod part_read;
+#[cfg(test)]
+mod part_tests;
+mod prefix;
 mod print;
 mod pull;
+#[cfg(test)]
+mod read_back;
 mod reply;
 mod run;
 #[cfg(test)]

@@ -155,7 +155,8 @@ fn read_number(text: &[u8]) -> Option<(u64, &[u8])>
     Some((value, rest))
 }
 
-fn is_name(word: &[u8]) -> bool
+/// A name has 1 to 64 small letters, and is no reserved word.
+pub(crate) fn is_name(word: &[u8]) -> bool
     ensures { result ≡ is_name word.now }
 {
     !word.is_empty() && word.len() <= 64 && is_lowercase(word) && !is_reserved(word)

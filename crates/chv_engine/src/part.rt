@@ -6,8 +6,8 @@ use crate::block::push_head;
 use chv_sip::body_hash;
 use std::alloc::{AllocError, Global};
 
-// What the file of a part begins with.
-const MARK: [u8; 8] = *b"CHVPART1";
+/// What the file of a part begins with.
+pub const MARK: [u8; 8] = *b"CHVPART1";
 
 // The bytes in front of a body: the mark, the body's length and its hash.
 const HEAD_BYTES: usize = 24;
