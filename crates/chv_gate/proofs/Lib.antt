@@ -1,4 +1,6 @@
+pub mod BegunLemmas
 pub mod CrashLemmas
+pub mod DamageLaws
 pub mod DuringLemmas
 pub mod GateLogLemmas
 pub mod ReadingLaws

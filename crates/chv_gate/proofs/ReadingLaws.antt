@@ -71,7 +71,8 @@ reads_ready gate payloads bytes read shut =
     subst (λ (n : ℕ). IsReady n payloads (settled (begun bytes))) (sym read.place)
     (subst (λ (l : List ℕ). IsReady (length (open_frames payloads)) payloads (settled l)) (begun_twice bytes) ready)
 
-closed_long : (rest : List ℕ) → BeginsClosed rest → 1 ≤ length rest
+-- where a closed gate stands, there is a byte
+pub closed_long : (rest : List ℕ) → BeginsClosed rest → 1 ≤ length rest
 closed_long [] closed = absurd closed
 closed_long (byte ∷ behind) closed = omega arith
 

@@ -1,5 +1,5 @@
 -- How the frames of a gate log are read one after the other: docs/FORMATS.md, "Gate log".
-use Rattle.std.specs.Prelude.{ℕ, ⊤, ◌≡◌, ◌⊎◌, ◌+◌, ◌<◌, ◌≤◌, ◌^◌, List, [], ◌++◌, length, get_or, take, drop}
+use Rattle.std.specs.Prelude.{ℕ, ⊤, ◌≡◌, ◌⊎◌, ◌+◌, ◌<◌, ◌≤◌, ◌^◌, List, [], ◌∷◌, ◌++◌, length, get_or, take, drop}
 use Rattle.std.specs.List.{All}
 use Rattle.byteorder.specs.Endian.{little_bytes}
 use Rattle.chv_gate.specs.GateLog.{OPEN, CLOSED, IsPayload, body, frame_of, open_frames}
@@ -54,3 +54,14 @@ pub record IsAnnounced (gate size : ℕ) (file : List ℕ) : Type 0 where
   pub opened : IsOpen gate file
   pub spelled : take 4 (drop (gate + 1) file) ≡ little_bytes 4 size
   pub room : gate + 5 + size < length file
+
+-- a log is damaged at this place: behind a gate, in front of which stand right payloads, and that is open, and behind
+-- which follows no payload that is right there
+pub record IsDamagedAt (AreRight : List (List ℕ) → Type 0) (at : ℕ) (file : List ℕ) : Type 0 where
+  pub payloads : List (List ℕ)
+  pub right : AreRight payloads
+  pub gate : ℕ
+  pub read : IsReadUpTo gate payloads file
+  pub opened : IsOpen gate file
+  pub place : at ≡ gate + 1
+  pub wrong : (payload : List ℕ) (next : ℕ) → IsFollowed gate payload next file → AreRight (payloads ++ payload ∷ []) → ⊥
