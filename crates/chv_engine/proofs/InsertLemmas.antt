@@ -1,64 +1,121 @@
--- How a store changes by a delivery into its table, and what a crash during it leaves.
-use Rattle.std.proofs.Common.{◌≡◌, ◌≢◌, ◌⊎◌, inl, inr, ℕ, ◌≤◌, List, [], ◌∷◌, length, map, Some, sym, ap, subst, ◌∙◌, arith}
+-- How a store changes by a row that is inserted into its table, and what a crash meanwhile leaves.
+use Rattle.std.proofs.Common.{◌≡◌, ◌≢◌, ◌⊎◌, inl, inr, ℕ, ◌≤◌, List, [], ◌∷◌, ◌++◌, length, map, Bool, true, false, not, Some, refl, sym, ap, subst, ◌∙◌, arith, if◌then◌else◌}
+use Rattle.chv_ast.specs.declared.refusal.Refusal.TheVariants.{LimitPassed}
 use Rattle.chv_site.specs.declared.file_id.FileId.{FileId}
-use Rattle.chv_site.specs.Files.{FileState}
+use Rattle.chv_site.specs.Files.{FileState, IsFrontOf}
 use Rattle.chv_site.specs.Images.{Image, IsFileImage}
 use Rattle.chv_gate.specs.GateLog.{HasFrames, IsReady}
-use Rattle.chv_engine.specs.Crashes.{DeliveryLeft, EitherStands}
-use Rattle.chv_engine.specs.Histories.{Book, History, TableStands, Stands, arrived, entry_of, catalog_payload}
-use Rattle.chv_engine.specs.Runs.{with_book}
-use Rattle.chv_engine.specs.Stores.{HasRoom, HoldsBook, HoldsTables, Holds}
+use Rattle.chv_table.specs.Books.{Book, arrived, entry_of, TableStands}
+use Rattle.chv_table.specs.Tables.{HoldsBook}
+use Rattle.chv_text.specs.Replies.{insert_line, refused_line}
+use Rattle.chv_engine.specs.Crashes.{IsLeftBy}
+use Rattle.chv_engine.specs.Histories.{History, Stands, with_book, catalog_payload}
+use Rattle.chv_engine.specs.Inserts.{has_room, InsertsRow, RowLeft}
+use Rattle.chv_engine.specs.Runs.{Event, Committed, Delivery, Moment, insert_into, insert_known, refusal}
+use Rattle.chv_engine.specs.Stores.{IsWithin, HoldsTables, Holds, AnswersAs}
+use Rattle.chv_engine.specs.declared.store.NamedTable.{NamedTable}
 use Rattle.chv_engine.specs.declared.store.Store.{Store}
-use Rattle.chv_engine.specs.declared.table.Table.{Table}
-use Rattle.chv_engine.proofs.CrashLemmas.{ready_left}
+use Rattle.chv_engine.proofs.LeftLemmas.{left_first, left_still, left_second}
+use Rattle.chv_engine.proofs.StepLemmas.{text_goes_on}
+use Rattle.chv_engine.proofs.StoreLemmas.{ready_left}
 
--- the store with the delivered table holds the history with the new entry
-pub delivered_holds : (store : Store) (table new : Table) (old mid : FileId → FileState) (history : History) (value : ℕ) → HasRoom 1 store → Holds store old history → (tables : HoldsTables (Some table) old history)
-    → ((f : FileId) → f.table ≢ 1 → mid f ≡ old f) → new.name.items ≡ table.name.items → HoldsBook new mid (arrived (entry_of value) (history.books 1))
-    → Holds (record { readable = store.readable; catalog = store.catalog; table = Some new }) mid (with_book 1 (arrived (entry_of value) (history.books 1)) history)
-delivered_holds store table new old mid history value room held tables elsewhere name book =
-    let at_catalog : store.catalog.file.table ≡ 0 = ap (λ (f : FileId). f.table) room.catalog in
-    record {
-      catalog = subst (λ (s : FileState). IsReady store.catalog.gate (map catalog_payload history.schema) s) (sym (elsewhere store.catalog.file (λ same. omega (arith, same, at_catalog)))) held.catalog;
-      tables = (tables.0, tables.1 ∙ ap (λ (n : List ℕ). record { name = n; column = tables.0 } ∷ []) (sym name), book);
-      others = λ t above. subst (λ (s : FileState). s.most ≤ 1) (sym (elsewhere (record { table = t; part = 0 }) (λ same. omega (arith, same, above, ap length tables.1)))) (held.others t above);
-    }
+module _ (store : Store) (named : NamedTable) (old : FileId → FileState) (history : History) (within : IsWithin store) (held : Holds store old history) (tables : HoldsTables (Some named) old history) where
+  at_catalog : store.catalog.file.table ≡ 0
+  at_catalog = ap (λ (f : FileId). f.table) within.catalog
 
--- a store whose one table's files stand for a book stands for the history with that book
-one_table : (store : Store) (table : Table) (old : FileId → FileState) (history : History) (book : Book) → HasRoom 1 store → Holds store old history → (tables : HoldsTables (Some table) old history)
-    → (image : Image) → ((f : FileId) → f.table ≢ 1 → IsFileImage (old f) (image f)) → TableStands image 1 book → Stands image (with_book 1 book history)
-one_table store table old history book room held tables image others stands =
-    let at_catalog : store.catalog.file.table ≡ 0 = ap (λ (f : FileId). f.table) room.catalog in
-    record {
-      catalog = subst (λ (f : FileId). HasFrames (map catalog_payload history.schema) (image f)) room.catalog
-          (ready_left store.catalog.gate (map catalog_payload history.schema) (old store.catalog.file) (image store.catalog.file) held.catalog (others store.catalog.file (λ same. omega (arith, same, at_catalog))));
-      tables = λ t some within. let one : 1 ≡ t = omega (arith, some, within, ap length tables.1) in subst (λ (n : ℕ). TableStands image n ((with_book 1 book history).books n)) one stands;
-      others = λ t above.
-          let left = (others (record { table = t; part = 0 }) (λ same. omega (arith, same, above, ap length tables.1))).no_longer in
-          omega (arith, left, held.others t above);
-    }
+  one : length history.schema ≡ 1
+  one = ap length tables.1
 
--- with the book that it had, this is the history itself
-same_history : (image : Image) (history : History) → Stands image (with_book 1 (history.books 1) history) → length history.schema ≡ 1 → Stands image history
-same_history image history stands one = record {
-  catalog = stands.catalog;
-  tables = λ t some within. let e : 1 ≡ t = omega (arith, some, within, one) in subst (λ (n : ℕ). TableStands image n (history.books n)) e (stands.tables 1 (omega arith) (omega (arith, one)));
-  others = stands.others;
-}
+  -- the store with its table changed holds the history with the table's new book
+  pub holds_book : (new : NamedTable) (mid : FileId → FileState) (book : Book) → ((f : FileId) → f.table ≢ 1 → mid f ≡ old f) → new.name.items ≡ named.name.items → HoldsBook new.table mid book
+      → Holds (record { catalog = store.catalog; table = Some new }) mid (with_book 1 book history)
+  holds_book new mid book elsewhere name holds = record {
+    lawful = held.lawful;
+    catalog = subst (λ (s : FileState). IsReady store.catalog.gate (map catalog_payload history.schema) s) (sym (elsewhere store.catalog.file (λ same. omega (arith, same, at_catalog)))) held.catalog;
+    tables = (tables.0, tables.1 ∙ ap (λ (n : List ℕ). record { name = n; column = tables.0 } ∷ []) (sym name), holds);
+    others = λ t above. subst (λ (s : FileState). s.most ≤ 1) (sym (elsewhere (record { table = t; part = 0 }) (λ same. omega (arith, same, above, one)))) (held.others t above);
+  }
 
--- while a row is delivered
-pub delivered_left : (store : Store) (table : Table) (old : FileId → FileState) (history : History) (value : ℕ) → HasRoom 1 store → Holds store old history → store.table ≡ Some table → table.number ≡ 1
-    → (tables : HoldsTables (Some table) old history) (said : List ℕ) (image : Image) (text : List ℕ)
-    → DeliveryLeft table.number (history.books 1) (arrived (entry_of value) (history.books 1)) old said image text
-    → EitherStands history (with_book 1 (arrived (entry_of value) (history.books 1)) history) said image text
-delivered_left store table old history value room held is number tables said image text left =
-    let new = arrived (entry_of value) (history.books 1) in
-    let others : (f : FileId) → f.table ≢ 1 → IsFileImage (old f) (image f) = λ f other. left.others f (λ same. other (same ∙ number)) in
-    record {
-      stands = elim left.stands as (λ _. Stands image history ⊎ Stands image (with_book 1 new history)) [
-        | inl before ↦ inl (same_history image history
-            (one_table store table old history (history.books 1) room held tables image others (subst (λ (n : ℕ). TableStands image n (history.books 1)) number before)) (ap length tables.1))
-        | inr after ↦ inr (one_table store table old history new room held tables image others (subst (λ (n : ℕ). TableStands image n new) number after))
-      ];
-      text_left = left.text_left;
-    }
+  -- the files stand for the history with the book for which the table's files stand
+  pub one_table : (book : Book) (image : Image) → ((f : FileId) → f.table ≢ 1 → IsFileImage (old f) (image f)) → TableStands image 1 book → Stands image (with_book 1 book history)
+  one_table book image others stands = record {
+    lawful = held.lawful;
+    catalog = subst (λ (f : FileId). HasFrames (map catalog_payload history.schema) (image f)) within.catalog
+        (ready_left store.catalog.gate (map catalog_payload history.schema) (old store.catalog.file) (image store.catalog.file) held.catalog (others store.catalog.file (λ same. omega (arith, same, at_catalog))));
+    tables = λ t some below. let first : 1 ≡ t = omega (arith, some, below, one) in subst (λ (n : ℕ). TableStands image n ((with_book 1 book history).books n)) first stands;
+    others = λ t above.
+        let left = (others (record { table = t; part = 0 }) (λ same. omega (arith, same, above, one))).no_longer in
+        omega (arith, left, held.others t above);
+  }
+
+  -- with the book that it had, this is the history itself
+  pub same_table : (image : Image) → ((f : FileId) → f.table ≢ 1 → IsFileImage (old f) (image f)) → TableStands image 1 (history.books 1) → Stands image history
+  same_table image others stands =
+      let all = one_table (history.books 1) image others stands in
+      record {
+        lawful = held.lawful;
+        catalog = all.catalog;
+        tables = λ t some below. let first : 1 ≡ t = omega (arith, some, below, one) in subst (λ (n : ℕ). TableStands image n (history.books n)) first stands;
+        others = all.others;
+      }
+
+  -- the same with the book that it had
+  pub holds_same : (new : NamedTable) (mid : FileId → FileState) → ((f : FileId) → f.table ≢ 1 → mid f ≡ old f) → new.name.items ≡ named.name.items → HoldsBook new.table mid (history.books 1)
+      → Holds (record { catalog = store.catalog; table = Some new }) mid history
+  holds_same new mid elsewhere name holds =
+      let all = holds_book new mid (history.books 1) elsewhere name holds in
+      record { lawful = held.lawful; catalog = all.catalog; tables = all.tables; others = all.others }
+
+-- what comes of a row by whether there is room
+abbrev row_of : ℕ → Delivery
+row_of value = record { table = 1; entry = entry_of value }
+
+abbrev events_by : Bool → ℕ → List Event
+events_by room value = if room then insert_into (row_of value) else refusal LimitPassed
+
+abbrev grown_by : Bool → ℕ → Book → Book
+grown_by room value book = if room then arrived (entry_of value) book else book
+
+abbrev reply_by : Bool → List ℕ
+reply_by room = if room then insert_line 0 1 0 else refused_line 0 LimitPassed
+
+module _ (store : Store) (named : NamedTable) (old : FileId → FileState) (m : Moment) (within : IsWithin store) (held : Holds store old m.history) (tables : HoldsTables (Some named) old m.history) where
+  left_by : (room : Bool) (value : ℕ) (said before : List ℕ) (image : Image) (text : List ℕ) → said ≡ before ++ m.said → ((f : FileId) → f.table ≢ 1 → IsFileImage (old f) (image f))
+      → (TableStands image 1 (m.history.books 1) × (text ≡ said)) ⊎ (TableStands image 1 (grown_by room value (m.history.books 1)) × IsFrontOf (reply_by room) said text)
+      → IsLeftBy (events_by room value) before m image text
+  left_by true value said before image text is others (inl first) =
+      left_still (insert_into (row_of value)) before m image text (same_table store named old m.history within held tables image others first.0) (first.1 ∙ is)
+  left_by true value said before image text is others (inr second) =
+      left_second (Committed (row_of value)) _ before m image text
+      (one_table store named old m.history within held tables (arrived (entry_of value) (m.history.books 1)) image others second.0)
+      (subst (λ (s : List ℕ). IsFrontOf (insert_line 0 1 0) s text) is second.1)
+  left_by false value said before image text is others (inl first) =
+      left_still (refusal LimitPassed) before m image text (same_table store named old m.history within held tables image others first.0) (first.1 ∙ is)
+  left_by false value said before image text is others (inr second) =
+      left_first (refusal LimitPassed) before m image text (same_table store named old m.history within held tables image others second.0)
+      (subst (λ (s : List ℕ). IsFrontOf (refused_line 0 LimitPassed) s text) is second.1)
+
+  -- while a row is inserted
+  pub row_left : (value : ℕ) (said before : List ℕ) (image : Image) (text : List ℕ) → said ≡ before ++ m.said → RowLeft 1 value (m.history.books 1) old said image text → IsLeftBy (insert_known (Some 1) value m.history) before m image text
+  row_left value said before image text is left = left_by (has_room (m.history.books 1)) value said before image text is left.others left.stands
+
+  answers_by : (room : Bool) (value : ℕ) (new : NamedTable) (mid : FileId → FileState) (said now before : List ℕ) → said ≡ before ++ m.said → ((f : FileId) → f.table ≢ 1 → mid f ≡ old f) → new.name.items ≡ named.name.items
+      → HoldsBook new.table mid (grown_by room value (m.history.books 1)) → now ≡ said ++ reply_by room
+      → AnswersAs (record { catalog = store.catalog; table = Some new }) mid now before (not room) (events_by room value) m
+  answers_by true value new mid said now before is elsewhere name holds added = record {
+    at = record { holds = holds_book store named old m.history within held tables new mid (arrived (entry_of value) (m.history.books 1)) elsewhere name holds; text = text_goes_on before said now m.said (insert_line 0 1 0) is added };
+    mark = refl;
+  }
+  answers_by false value new mid said now before is elsewhere name holds added = record {
+    at = record { holds = holds_same store named old m.history within held tables new mid elsewhere name holds; text = text_goes_on before said now m.said (refused_line 0 LimitPassed) is added };
+    mark = refl;
+  }
+
+  -- a row that was inserted
+  pub row_answers : (value : ℕ) (new : NamedTable) (mid : FileId → FileState) (said now before : List ℕ) (refused : Bool) → said ≡ before ++ m.said → ((f : FileId) → f.table ≢ 1 → mid f ≡ old f) → new.name.items ≡ named.name.items
+      → InsertsRow new.table mid value (m.history.books 1) said now refused
+      → AnswersAs (record { catalog = store.catalog; table = Some new }) mid now before refused (insert_known (Some 1) value m.history) m
+  row_answers value new mid said now before refused is elsewhere name row =
+      let room = has_room (m.history.books 1) in
+      subst (λ (mark : Bool). AnswersAs (record { catalog = store.catalog; table = Some new }) mid now before mark (events_by room value) m) (sym row.mark)
+      (answers_by room value new mid said now before is elsewhere name row.holds row.text)

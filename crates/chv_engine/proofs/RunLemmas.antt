@@ -1,85 +1,96 @@
--- What a crash while a script is run leaves.
-use Rattle.std.proofs.Common.{◌≡◌, ◌≢◌, inl, inr, ℕ, zero, suc, ◌≤◌, List, [], ◌∷◌, ◌++◌, length, Bool, refl, sym, ap, subst, ◌∙◌, arith}
-use Rattle.std.proofs.lemmas.List.{append-nil}
-use Rattle.std.proofs.lemmas.List.Elements.{All-nil}
+-- How a run goes on from piece to piece.
+use Rattle.std.proofs.Common.{◌≡◌, ◌⊎◌, inl, inr, ℕ, List, [], ◌∷◌, ◌++◌, Bool, true, false, ◌||◌, Some, refl, sym, ap, subst, ◌∙◌, if◌then◌else◌}
+use Rattle.std.specs.Prelude.{Option}
 use Rattle.chv_site.specs.declared.file_id.FileId.{FileId}
-use Rattle.chv_site.specs.Files.{FileState, settled}
-use Rattle.chv_site.specs.Images.{Image, IsFileImage, IsLeft, HasLengths}
+use Rattle.chv_site.specs.Files.{FileState}
+use Rattle.chv_site.specs.Images.{Image}
 use Rattle.chv_site.specs.During.{During}
 use Rattle.chv_site.proofs.Moments.{goes_on}
-use Rattle.chv_gate.specs.Crashes.{IsLeftWith}
-use Rattle.chv_gate.specs.GateLog.{HasFrames, IsPayload, begun}
-use Rattle.chv_engine.specs.Crashes.{IsLeftBetween, IsLeftByRun, StillNew}
-use Rattle.chv_engine.specs.Histories.{Stands, no_history}
-use Rattle.chv_engine.specs.Runs.{Moment, begins, answered}
-use Rattle.chv_engine.specs.Stores.{IsNew}
-use Rattle.chv_engine.proofs.CreateLemmas.{begun_short}
+use Rattle.chv_engine.specs.Crashes.{IsLeftBy, Reaches}
+use Rattle.chv_engine.specs.Damage.{first_statement}
+use Rattle.chv_engine.specs.Runs.{Event, Moment, piece_events, behind, run_events}
+use Rattle.chv_engine.specs.Script.{is_blank}
+use Rattle.chv_engine.specs.Statements.{Statement, SelectAll, statement_of}
+use Rattle.chv_engine.specs.Stores.{IsAt, AnswersAs}
+use Rattle.chv_engine.specs.declared.store.Store.{Store}
+use Rattle.chv_engine.proofs.LeftLemmas.{behind-append, early, onward}
 
--- what is left at the first moment is left by the whole run
-pub left_first : (readable : Bool) (pieces : List (List ℕ)) (before : List ℕ) (m : Moment) (image : Image) (text : List ℕ) → Stands image m.history → text ≡ before ++ m.said → IsLeftByRun readable pieces before m image text
-left_first readable [] before m image text stands is = (stands, is)
-left_first readable (piece ∷ pieces) before m image text stands is = inl (inl (stands, is))
+or_assoc : (a b c : Bool) → ((a || b) || c) ≡ (a || (b || c))
+or_assoc true b c = refl
+or_assoc false b c = refl
 
--- a file of at most one byte has no frame
-pub no_frame : (bytes : List ℕ) → length bytes ≤ 1 → HasFrames [] bytes
-no_frame bytes short = record { sized = All-nil IsPayload; rest = bytes; split = refl; ends = inr (refl, short) }
+or_false : (b : Bool) → b ≡ (b || false)
+or_false true = refl
+or_false false = refl
 
--- files of which each log has at most one byte stand for the history of a new store
-pub new_stands : (image : Image) → ((table : ℕ) → length (image (record { table = table; part = 0 })) ≤ 1) → Stands image no_history
-new_stands image short = record {
-  catalog = no_frame (image (record { table = 0; part = 0 })) (short 0);
-  tables = λ t some within. absurd (omega (arith, some, within));
-  others = λ t above. short t;
-}
+true_or_false : (b : Bool) → (b ≡ true) ⊎ (b ≡ false)
+true_or_false true = inl refl
+true_or_false false = inr refl
 
--- a fact of each log, from that of the catalog and those of the tables
-each_log : (P : ℕ → Type 0) → P 0 → ((t : ℕ) → 1 ≤ t → P t) → (t : ℕ) → P t
-each_log P first later zero = first
-each_log P first later (suc t) = later (suc t) (omega arith)
+-- nothing was answered yet
+pub reaches_first : (store : Store) (files : FileId → FileState) (said before : List ℕ) (pieces : List (List ℕ)) (m : Moment) → IsAt store files said before m → Reaches store files said before false pieces pieces m
+reaches_first store files said before pieces m at = record { moment = m; at = at; mark = or_false m.refused; onward = refl; onward_left = λ image text left. left }
 
-not_catalog : (t : ℕ) → 1 ≤ t → ◌≢◌ {A = FileId} (record { table = t; part = 0 }) (record { table = 0; part = 0 })
-not_catalog t some same = let e : t ≡ 0 = ap (λ (f : FileId). f.table) same in omega (arith, some, e)
+module _ (pieces : List (List ℕ)) (before : List ℕ) (first : Moment) (refused one : Bool) (old new : Store) (files now_files : FileId → FileState) (said now : List ℕ) (left : List (List ℕ)) (reach : Reaches old files said before refused left pieces first)
+    (piece : List ℕ) (rest : List (List ℕ)) (cut : left ≡ piece ∷ rest) where
+  abbrev pub m : Moment
+  m = reach.moment
 
--- while the catalog's log is begun, a new store stays new
-pub begun_new : (files : FileId → FileState) (said : List ℕ) → IsNew files → (image : Image) (text : List ℕ) → IsLeftWith (record { table = 0; part = 0 }) (λ bytes. length bytes ≤ 1) files said image text → StillNew said image text
-begun_new files said new image text left = record {
-  stands = new_stands image (each_log (λ t. length (image (record { table = t; part = 0 })) ≤ 1) left.1
-      (λ t some. let long = (left.0 (record { table = t; part = 0 }) (not_catalog t some)).no_longer in omega (arith, long, new t)));
-  text_left = left.2;
-}
+  abbrev pub events : List Event
+  events = piece_events piece m.history
 
--- and once it is
-pub sized_new : (files begun_files : FileId → FileState) (said now : List ℕ) → IsNew files → ((f : FileId) → f ≢ record { table = 0; part = 0 } → begun_files f ≡ files f)
-    → begun_files (record { table = 0; part = 0 }) ≡ settled (begun (files (record { table = 0; part = 0 })).bytes) → HasLengths (files (record { table = 0; part = 0 })) → now ≡ said
-    → (image : Image) (text : List ℕ) → IsLeft begun_files now image text → StillNew said image text
-sized_new files begun_files said now new kept catalog lengths same image text left =
-    let short : length (files (record { table = 0; part = 0 })).bytes ≤ 1 = let reads = lengths.no_longer in omega (arith, reads, new 0) in
-    let first : length (image (record { table = 0; part = 0 })) ≤ 1 =
-    let long = (subst (λ (s : FileState). IsFileImage s (image (record { table = 0; part = 0 }))) catalog (left.0 (record { table = 0; part = 0 }))).no_longer in
-    omega (arith, long, begun_short (files (record { table = 0; part = 0 })).bytes short) in
-    record {
-      stands = new_stands image (each_log (λ t. length (image (record { table = t; part = 0 })) ≤ 1) first
-          (λ t some. let long = (subst (λ (s : FileState). IsFileImage s (image (record { table = t; part = 0 }))) (kept (record { table = t; part = 0 }) (not_catalog t some)) (left.0 (record { table = t; part = 0 }))).no_longer in
-          omega (arith, long, new t)));
-      text_left = left.1 ∙ same;
+  abbrev pub next : Moment
+  next = behind events m
+
+  -- the events of what is left are those of the piece, and those of the rest
+  all_events : run_events left m ≡ events ++ run_events rest next
+  all_events = ap (λ (ps : List (List ℕ)). run_events ps m) cut
+
+  module _ (answers : AnswersAs new now_files now before one events m) where
+    mark_is : next.refused ≡ (first.refused || (refused || one))
+    mark_is = answers.mark ∙ ap (λ (b : Bool). b || one) reach.mark ∙ or_assoc first.refused refused one
+
+    -- the next piece was answered
+    pub reaches_next : Reaches new now_files now before (refused || one) rest pieces first
+    reaches_next = record {
+      moment = next;
+      at = answers.at;
+      mark = mark_is;
+      onward = sym (behind-append events (run_events rest next) m) ∙ sym (ap (λ (es : List Event). behind es m) all_events) ∙ reach.onward;
+      onward_left = λ image text left_by. reach.onward_left image text
+          (subst (λ (es : List Event). IsLeftBy es before m image text) (sym all_events) (onward events (run_events rest next) before m image text left_by));
     }
 
--- a new store is left by each run on it
-pub new_left : (readable : Bool) (pieces : List (List ℕ)) (said : List ℕ) (image : Image) (text : List ℕ) → StillNew said image text → IsLeftByRun readable pieces said (begins no_history) image text
-new_left readable pieces said image text left = left_first readable pieces said (begins no_history) image text left.stands (left.text_left ∙ sym (append-nil said))
+    -- the last piece was answered
+    pub reaches_end : rest ≡ [] → AnswersAs new now_files now before (refused || one) (run_events pieces first) first
+    unfolding reaches_next
+    reaches_end none =
+        let last : next ≡ behind (run_events pieces first) first =
+        ap (λ (ps : List (List ℕ)). behind (run_events ps next) next) (sym none) ∙ reaches_next.onward in
+        record {
+          at = subst (λ (end : Moment). IsAt new now_files now before end) last answers.at;
+          mark = ap (λ (end : Moment). end.refused) (sym last) ∙ mark_is;
+        }
 
--- and where no call was made
-pub untouched_left : (files : FileId → FileState) (said : List ℕ) → IsNew files → (readable : Bool) (pieces : List (List ℕ)) (image : Image) (text : List ℕ) → IsLeft files said image text
-    → IsLeftByRun readable pieces said (begins no_history) image text
-untouched_left files said new readable pieces image text left = new_left readable pieces said image text
-    (record { stands = new_stands image (λ t. let long = (left.0 (record { table = t; part = 0 })).no_longer in omega (arith, long, new t)); text_left = left.1 })
+  -- while it is answered
+  pub next_during : {S : Type 0} (moment : S → ℕ) (left_since : S → ℕ → Image → List ℕ → Type 0) (from mid to : S) → During moment left_since from mid (IsLeftBy (run_events pieces first) before first)
+      → During moment left_since mid to (IsLeftBy events before m) → During moment left_since from to (IsLeftBy (run_events pieces first) before first)
+  next_during moment left_since from mid to so_far during =
+      goes_on moment left_since from mid to (IsLeftBy (run_events pieces first) before first) (IsLeftBy events before m) so_far during
+      (λ image text between. reach.onward_left image text
+      (subst (λ (es : List Event). IsLeftBy es before m image text) (sym all_events) (early events (run_events rest next) before m image text between)))
 
-module _ {S : Type 0} (moment : S → ℕ) (left_since : S → ℕ → Image → List ℕ → Type 0) (readable : Bool) (pieces : List (List ℕ)) (before : List ℕ) (first : Moment) where
-  -- the next piece is answered
-  pub next_during : (old mid new : S) (m : Moment) (piece : List ℕ) (left rest : List (List ℕ)) → left ≡ piece ∷ rest
-      → ((image : Image) (text : List ℕ) → IsLeftByRun readable left before m image text → IsLeftByRun readable pieces before first image text)
-      → During moment left_since old mid (IsLeftByRun readable pieces before first) → During moment left_since mid new (IsLeftBetween before m (answered readable piece m))
-      → During moment left_since old new (IsLeftByRun readable pieces before first)
-  next_during old mid new m piece left rest cut onward so_far during =
-      goes_on moment left_since old mid new (IsLeftByRun readable pieces before first) (IsLeftBetween before m (answered readable piece m)) so_far during
-      (λ image text between. onward image text (subst (λ (ps : List (List ℕ)). IsLeftByRun readable ps before m image text) (sym cut) (inl between)))
+-- the first statement of pieces whose first is blank, or not
+pub first_behind : (pieces : List (List ℕ)) (piece : List ℕ) (rest : List (List ℕ)) (s : Option Statement) → pieces ≡ piece ∷ rest → is_blank piece ≡ true → first_statement pieces ≡ s → first_statement rest ≡ s
+first_behind pieces piece rest s cut blank is =
+    sym (ap (λ (b : Bool). if b then first_statement rest else statement_of piece) blank) ∙ sym (ap first_statement cut) ∙ is
+
+pub first_of : (pieces : List (List ℕ)) (piece : List ℕ) (rest : List (List ℕ)) (s : Option Statement) → pieces ≡ piece ∷ rest → is_blank piece ≡ false → first_statement pieces ≡ s → statement_of piece ≡ s
+first_of pieces piece rest s cut black is =
+    sym (ap (λ (b : Bool). if b then first_statement rest else statement_of piece) black) ∙ sym (ap first_statement cut) ∙ is
+
+pub no_statement : (name : List ℕ) → first_statement [] ≡ Some (SelectAll name) → ⊥
+no_statement name is = absurd (cc is)
+
+pub blank_or_not : (piece : List ℕ) → (is_blank piece ≡ true) ⊎ (is_blank piece ≡ false)
+blank_or_not piece = true_or_false (is_blank piece)

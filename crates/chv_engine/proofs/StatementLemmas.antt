@@ -7,10 +7,9 @@ use Rattle.std.specs.Option.{option_or, option_map}
 use Rattle.std.specs.List.{fold, list_all}
 use Rattle.std.specs.Char.{is_ascii_digit}
 use Rattle.std.specs.Cmp.Lexicographic.{pointwise}
-use borrow.Author.Tests.{ltb-true}
 use Rattle.chv_engine.specs.declared.parse.Statement.{Statement as Read}
 use Rattle.chv_engine.specs.Lexemes.{Lexeme, Word, lexeme_eq, lexemes}
-use Rattle.chv_engine.specs.Statements.{Statement, CreateTable, Insert, with_digit, number_of, is_number, is_name, create_form, insert_form, word_at, created, inserted, statement_of, IsSized, seen_statement}
+use Rattle.chv_engine.specs.Statements.{Statement, CreateTable, Insert, SelectAll, with_digit, number_of, is_number, is_name, create_form, insert_form, select_form, word_at, created, inserted, selected, statement_of, IsNamed, seen_statement}
 use Rattle.chv_engine.proofs.LexemeLemmas.{and-left, and-right, lexemes_eq-same, lexemes_eq-itself}
 
 -- more digits never make a value less
@@ -85,6 +84,16 @@ inserted-None written fails =
     form-None (is_name table && is_number digits) written (insert_form table digits) (Insert table (number_of digits))
     (λ right e. fails table digits (and-left (is_name table) (is_number digits) right) (and-right (is_name table) (is_number digits) right) e)
 
+pub selected-Some : (written : List Lexeme) (table : List ℕ) → IsTrue (is_name table) → written ≡ select_form table → selected written ≡ Some (SelectAll table)
+unfolding selected
+selected-Some written table right e = rw e (form-Some (is_name table) (select_form table) (select_form table) (SelectAll table) right refl)
+
+pub selected-None : (written : List Lexeme) → ((table : List ℕ) → IsTrue (is_name table) → written ≢ select_form table) → selected written ≡ None
+unfolding selected
+selected-None written fails =
+    let table = word_at written 3 in
+    form-None (is_name table) written (select_form table) (SelectAll table) (fails table)
+
 -- what is left of equal texts behind their first n
 pub left : (n : ℕ) {read written form : List Lexeme} → written ≡ read → written ≡ form → drop n read ≡ drop n form
 left n p q = ap (drop n) (sym p ∙ q)
@@ -100,82 +109,118 @@ some_same e = cc
 first_word : (a b : List ℕ) (xs ys : List Lexeme) → Word a ∷ xs ≡ Word b ∷ ys → a ≡ b
 first_word a b xs ys e = ap (λ written. word_at written 0) e
 
-create-insert : codes "CREATE" ≢ codes "INSERT"
-create-insert e = let first : 67 ≡ 73 = ap (λ bytes. get_or bytes 0 0) e in absurd (omega (arith, first))
+-- of a text that begins with another word none is written
+no_create : (word : List ℕ) (rest : List Lexeme) → word ≢ codes "CREATE" → created (Word word ∷ rest) ≡ None
+no_create word rest other = created-None (Word word ∷ rest) (λ _ _ _ _ same. other (first_word _ _ _ _ same))
+
+no_insert : (word : List ℕ) (rest : List Lexeme) → word ≢ codes "INSERT" → inserted (Word word ∷ rest) ≡ None
+no_insert word rest other = inserted-None (Word word ∷ rest) (λ _ _ _ _ same. other (first_word _ _ _ _ same))
+
+no_select : (word : List ℕ) (rest : List Lexeme) → word ≢ codes "SELECT" → selected (Word word ∷ rest) ≡ None
+no_select word rest other = selected-None (Word word ∷ rest) (λ _ _ same. other (first_word _ _ _ _ same))
+
+-- words with another first letter
+first_letter : (a b : List ℕ) → (get_or a 0 0 ≢ get_or b 0 0) → a ≢ b
+first_letter a b apart e = apart (ap (λ bytes. get_or bytes 0 0) e)
 
 pub statement_of-None : (piece : List ℕ) → ((word : List ℕ) (rest : List Lexeme) → lexemes piece ≢ Word word ∷ rest) → statement_of piece ≡ None
 unfolding statement_of
 statement_of-None piece none =
-    rw (created-None (lexemes piece) (λ _ _ _ _ e. none _ _ e), inserted-None (lexemes piece) (λ _ _ _ _ e. none _ _ e)) refl
+    rw (
+      created-None (lexemes piece) (λ _ _ _ _ e. none _ _ e),
+      inserted-None (lexemes piece) (λ _ _ _ _ e. none _ _ e),
+      selected-None (lexemes piece) (λ _ _ e. none _ _ e),
+    ) refl
 
 pub statement_of-create : (piece word : List ℕ) (rest : List Lexeme) → lexemes piece ≡ Word word ∷ rest → word ≡ codes "CREATE"
     → statement_of piece ≡ created (Word (codes "CREATE") ∷ rest)
 unfolding statement_of
 statement_of-create piece word rest e is =
-    rw (e, is, inserted-None (Word (codes "CREATE") ∷ rest) (λ _ _ _ _ same. create-insert (first_word _ _ _ _ same)))
-    (option_or-None (created (Word (codes "CREATE") ∷ rest)))
+    rw (
+      e,
+      is,
+      no_insert (codes "CREATE") rest (first_letter _ _ (λ same. absurd (omega (arith, same)))),
+      no_select (codes "CREATE") rest (first_letter _ _ (λ same. absurd (omega (arith, same)))),
+    ) (option_or-None (created (Word (codes "CREATE") ∷ rest)))
 
 pub statement_of-insert : (piece word : List ℕ) (rest : List Lexeme) → lexemes piece ≡ Word word ∷ rest → word ≡ codes "INSERT"
     → statement_of piece ≡ inserted (Word (codes "INSERT") ∷ rest)
 unfolding statement_of
 statement_of-insert piece word rest e is =
-    rw (e, is, created-None (Word (codes "INSERT") ∷ rest) (λ _ _ _ _ same. create-insert (sym (first_word _ _ _ _ same)))) refl
-
-pub statement_of-other : (piece word : List ℕ) (rest : List Lexeme) → lexemes piece ≡ Word word ∷ rest → word ≢ codes "CREATE" → word ≢ codes "INSERT"
-    → statement_of piece ≡ None
-unfolding statement_of
-statement_of-other piece word rest e no_create no_insert =
     rw (
       e,
-      created-None (Word word ∷ rest) (λ _ _ _ _ same. no_create (first_word _ _ _ _ same)),
-      inserted-None (Word word ∷ rest) (λ _ _ _ _ same. no_insert (first_word _ _ _ _ same)),
+      is,
+      no_create (codes "INSERT") rest (first_letter _ _ (λ same. absurd (omega (arith, same)))),
+      no_select (codes "INSERT") rest (first_letter _ _ (λ same. absurd (omega (arith, same)))),
+    ) (option_or-None (inserted (Word (codes "INSERT") ∷ rest)))
+
+pub statement_of-select : (piece word : List ℕ) (rest : List Lexeme) → lexemes piece ≡ Word word ∷ rest → word ≡ codes "SELECT"
+    → statement_of piece ≡ selected (Word (codes "SELECT") ∷ rest)
+unfolding statement_of
+statement_of-select piece word rest e is =
+    rw (
+      e,
+      is,
+      no_create (codes "SELECT") rest (first_letter _ _ (λ same. absurd (omega (arith, same)))),
+      no_insert (codes "SELECT") rest (first_letter _ _ (λ same. absurd (omega (arith, same)))),
     ) refl
 
+pub statement_of-other : (piece word : List ℕ) (rest : List Lexeme) → lexemes piece ≡ Word word ∷ rest
+    → word ≢ codes "CREATE" → word ≢ codes "INSERT" → word ≢ codes "SELECT" → statement_of piece ≡ None
+unfolding statement_of
+statement_of-other piece word rest e other_create other_insert other_select =
+    rw (e, no_create word rest other_create, no_insert word rest other_insert, no_select word rest other_select) refl
+
 -- a name has 1 to 64 bytes
-is_name-sized : (word : List ℕ) → IsTrue (is_name word) → (1 ≤ length word) × (length word ≤ 64)
+pub is_name-sized : (word : List ℕ) → IsTrue (is_name word) → (1 ≤ length word) × (length word ≤ 64)
 is_name-sized word h = (grind (arith, nat_tests, h), grind (arith, nat_tests, h))
 
--- what is read has the sizes of its form
-form-sized : (right : Bool) (written form : List Lexeme) (t s : Statement) → (right ≡ true → IsSized t)
-    → (if right && pointwise lexeme_eq written form then Some t else None) ≡ Some s → IsSized s
-form-sized right written form t s sized =
+-- what is read has the names of its form
+form-named : (right : Bool) (written form : List Lexeme) (t s : Statement) → (right ≡ true → IsNamed t)
+    → (if right && pointwise lexeme_eq written form then Some t else None) ≡ Some s → IsNamed s
+form-named right written form t s named =
     let same = pointwise lexeme_eq written form in
-    elim (right && same) as (λ b. (right && same) ≡ b → (if b then Some t else None) ≡ Some s → IsSized s) [
-      | true ↦ λ h e. subst IsSized (some_same e) (sized (and-left right same h))
+    elim (right && same) as (λ b. (right && same) ≡ b → (if b then Some t else None) ≡ Some s → IsNamed s) [
+      | true ↦ λ h e. subst IsNamed (some_same e) (named (and-left right same h))
       | false ↦ λ _ e. cc
     ] refl
 
-created-sized : (written : List Lexeme) (s : Statement) → created written ≡ Some s → IsSized s
+created-named : (written : List Lexeme) (s : Statement) → created written ≡ Some s → IsNamed s
 unfolding created
-created-sized written s =
+created-named written s =
     let name = word_at written 2 in
     let column = word_at written 4 in
-    form-sized (is_name name && is_name column) written (create_form name column) (CreateTable name column) s
-    (λ right.
-    let sized_name = is_name-sized name (and-left _ _ right) in
-    let sized_column = is_name-sized column (and-right _ _ right) in
-    (sized_name.0, sized_name.1, sized_column.0, sized_column.1))
+    form-named (is_name name && is_name column) written (create_form name column) (CreateTable name column) s
+    (λ right. (and-left _ _ right, and-right _ _ right))
 
-inserted-sized : (written : List Lexeme) (s : Statement) → inserted written ≡ Some s → IsSized s
+inserted-named : (written : List Lexeme) (s : Statement) → inserted written ≡ Some s → IsNamed s
 unfolding inserted
-inserted-sized written s =
+inserted-named written s =
     let table = word_at written 2 in
     let digits = word_at written 5 in
-    form-sized (is_name table && is_number digits) written (insert_form table digits) (Insert table (number_of digits)) s
-    (λ right.
-    let sized_table = is_name-sized table (and-left _ _ right) in
-    (sized_table.0, sized_table.1, ltb-true _ _ (and-right _ _ (and-right _ _ right))))
+    form-named (is_name table && is_number digits) written (insert_form table digits) (Insert table (number_of digits)) s
+    (λ right. and-left _ _ right)
 
--- a statement that is written has names of 1 to 64 bytes, and a value of 64 bits
-pub statement_of-sized : (piece : List ℕ) (s : Statement) → statement_of piece ≡ Some s → IsSized s
+selected-named : (written : List Lexeme) (s : Statement) → selected written ≡ Some s → IsNamed s
+unfolding selected
+selected-named written s =
+    let table = word_at written 3 in
+    form-named (is_name table) written (select_form table) (SelectAll table) s (λ right. right)
+
+-- the statement of one of two readings
+either-named : (o p : Option Statement) (s : Statement) → (o ≡ Some s → IsNamed s) → (p ≡ Some s → IsNamed s) → option_or o p ≡ Some s → IsNamed s
+either-named None p s first second e = second e
+either-named (Some t) p s first second e = first e
+
+-- a statement that is written has names of the language
+pub statement_of-named : (piece : List ℕ) (s : Statement) → statement_of piece ≡ Some s → IsNamed s
 unfolding statement_of
-statement_of-sized piece s =
-    elim (created (lexemes piece)) as (λ o. created (lexemes piece) ≡ o → option_or o (inserted (lexemes piece)) ≡ Some s → IsSized s) [
-      | None ↦ λ _ e. inserted-sized (lexemes piece) s e
-      | Some t ↦ λ h e. subst IsSized (some_same e) (created-sized (lexemes piece) t h)
-    ] refl
+statement_of-named piece s =
+    let written = lexemes piece in
+    either-named (created written) (option_or (inserted written) (selected written)) s (created-named written s)
+    (either-named (inserted written) (selected written) s (inserted-named written s) (selected-named written s))
 
-pub read-sized : (read : Option Read) (piece : List ℕ) → option_map seen_statement read ≡ statement_of piece
-    → IfSome read (λ statement. IsSized (seen_statement statement))
-read-sized None piece e = tt
-read-sized (Some s) piece e = statement_of-sized piece (seen_statement s) (sym e)
+pub read-named : (read : Option Read) (piece : List ℕ) → option_map seen_statement read ≡ statement_of piece
+    → IfSome read (λ statement. IsNamed (seen_statement statement))
+read-named None piece e = tt
+read-named (Some s) piece e = statement_of-named piece (seen_statement s) (sym e)

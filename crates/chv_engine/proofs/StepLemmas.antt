@@ -1,70 +1,70 @@
--- What a crash while a statement is answered leaves.
-use Rattle.std.proofs.Common.{◌≡◌, inl, inr, ℕ, ◌+◌, List, ◌++◌, length, take, Bool, sym, ap, ◌∙◌, arith, append_assoc}
-use Rattle.std.proofs.Math.Seq.{take-append-add}
-use Rattle.std.proofs.lemmas.List.{append-nil}
+-- How a statement is answered, and what a crash meanwhile leaves.
+use Rattle.std.proofs.Common.{◌≡◌, inl, inr, ℕ, List, [], ◌∷◌, ◌++◌, Bool, OnOk, IfOk, refl, ap, subst, ◌∙◌, append_assoc}
+use Rattle.std.specs.Prelude.{Result}
 use Rattle.chv_site.specs.declared.file_id.FileId.{FileId}
-use Rattle.chv_site.specs.Files.{FileState}
-use Rattle.chv_site.specs.Images.{Image, IsLeftSaying}
+use Rattle.chv_site.specs.Files.{FileState, KeepsFiles, IsFrontOf}
+use Rattle.chv_site.specs.Images.{Image, IsLeft, IsLeftSaying}
 use Rattle.chv_site.specs.During.{During}
+use Rattle.chv_site.proofs.Images.{kept_image}
 use Rattle.chv_site.proofs.Moments.{weakened, goes_on}
-use Rattle.chv_engine.specs.Crashes.{EitherStands, IsSaidBetween, IsLeftBetween}
-use Rattle.chv_engine.specs.Histories.{History, Stands}
-use Rattle.chv_engine.specs.Replies.{refused_line}
-use Rattle.chv_engine.specs.Runs.{Moment, refuse}
-use Rattle.chv_engine.specs.Stores.{HasRoom, Holds, IsAt}
-use Rattle.chv_engine.specs.declared.reply.Refusal.{Refusal}
+use Rattle.chv_engine.specs.Crashes.{EitherStands, IsLeftBy}
+use Rattle.chv_engine.specs.Histories.{TableDef}
+use Rattle.chv_engine.specs.Runs.{Event, Created, Replied, Plan, Moment, happen}
+use Rattle.chv_engine.specs.Stores.{IsWithin, IsAt, AnswersAs}
 use Rattle.chv_engine.specs.declared.store.Store.{Store}
-use Rattle.chv_engine.proofs.StoreLemmas.{image_stands}
+use Rattle.chv_engine.proofs.LeftLemmas.{nothing_more, left_first, left_still, left_second}
+use Rattle.chv_engine.proofs.ResultLemmas.{if_ok_is}
+use Rattle.chv_engine.proofs.StoreLemmas.{holds_kept, image_stands}
 
--- a front of a line behind a text lies between the text and the text with the line
-pub said_between : (before said text m line : List ℕ) (k : ℕ) → said ≡ before ++ m → text ≡ said ++ take k line → IsSaidBetween (before ++ m) (before ++ (m ++ line)) text
-said_between before said text m line k is front = (
-  length (before ++ m) + k,
-  omega arith,
-  front ∙ ap (λ (l : List ℕ). l ++ take k line) is
-      ∙ sym (take-append-add (before ++ m) line k)
-      ∙ ap (λ (l : List ℕ). take (length (before ++ m) + k) l) (append_assoc before m line),
-)
+-- the text grows by a line
+pub text_goes_on : (before said now text line : List ℕ) → said ≡ before ++ text → now ≡ said ++ line → now ≡ before ++ (text ++ line)
+text_goes_on before said now text line is added = added ∙ ap (λ (l : List ℕ). l ++ line) is ∙ append_assoc before text line
 
--- the text itself does
-pub said_at : (before m line : List ℕ) (text : List ℕ) → text ≡ before ++ m → IsSaidBetween (before ++ m) (before ++ (m ++ line)) text
-said_at before m line text is = said_between before text text m line 0 is (sym (append-nil text))
+-- a reply is said at a moment
+pub replied_at : (store : Store) (old new : FileId → FileState) (said now before line : List ℕ) (plans : List Plan) (mark : Bool) (m : Moment) → IsWithin store → IsAt store old said before m → KeepsFiles old new
+    → now ≡ said ++ line → AnswersAs store new now before mark (Replied line plans mark ∷ []) m
+replied_at store old new said now before line plans mark m within at kept added = record {
+  at = record { holds = holds_kept store old new m.history within kept at.holds; text = text_goes_on before said now m.said line at.text added };
+  mark = refl;
+}
 
--- while a reply is said behind a history that stands
-pub reply_left : (store : Store) (files : FileId → FileState) (history : History) (said before m line : List ℕ) (image : Image) (text : List ℕ) → HasRoom 0 store → Holds store files history → said ≡ before ++ m
-    → IsLeftSaying files said line image text → Stands image history × IsSaidBetween (before ++ m) (before ++ (m ++ line)) text
-reply_left store files history said before m line image text room held is left =
-    (image_stands store files image history room held left.0, said_between before said text m line left.1.0 is left.1.1)
-
--- while a statement is done whose reply is not said yet
-pub done_left : (m : Moment) (new : History) (before said line : List ℕ) (mark : Bool) (image : Image) (text : List ℕ) → said ≡ before ++ m.said → EitherStands m.history new said image text
-    → IsLeftBetween before m (record { history = new; said = m.said ++ line; refused = mark }) image text
-done_left m new before said line mark image text is left =
-    elim left.stands as (λ _. IsLeftBetween before m (record { history = new; said = m.said ++ line; refused = mark }) image text) [
-      | inl old ↦ inl (old, left.text_left ∙ is)
-      | inr next ↦ inr (next, said_at before m.said line text (left.text_left ∙ is))
-    ]
+pub reply_answers : {E : Type 0} (r : Result Bool E) (store : Store) (old new : FileId → FileState) (said now before line : List ℕ) (plans : List Plan) (mark : Bool) (m : Moment) → IsWithin store → IsAt store old said before m
+    → KeepsFiles old new → OnOk r (now ≡ said ++ line) → IfOk r (λ answer. answer ≡ mark) → IfOk r (λ refused. AnswersAs store new now before refused (Replied line plans mark ∷ []) m)
+reply_answers r store old new said now before line plans mark m within at kept =
+    if_ok_is r (now ≡ said ++ line) mark (λ refused. AnswersAs store new now before refused (Replied line plans mark ∷ []) m)
+    (λ added. replied_at store old new said now before line plans mark m within at kept added)
 
 module _ {S : Type 0} (moment : S → ℕ) (left_since : S → ℕ → Image → List ℕ → Type 0) where
-  -- a refusal, from its call of say
-  pub refused_during : (old new : S) (store : Store) (files : FileId → FileState) (said before : List ℕ) (mark : Bool) (m : Moment) (refusal : Refusal) → HasRoom 0 store → Holds store files m.history → IsAt store files said before mark m
-      → During moment left_since old new (IsLeftSaying files said (refused_line 0 refusal)) → During moment left_since old new (IsLeftBetween before m (refuse refusal m))
-  refused_during old new store files said before mark m refusal room held at during =
-      weakened moment left_since old new (IsLeftSaying files said (refused_line 0 refusal)) (IsLeftBetween before m (refuse refusal m)) during
-      (λ image text left. inr (reply_left store files m.history said before m.said (refused_line 0 refusal) image text room held at.text left))
+  -- while it is said
+  pub reply_during : (old new : S) (store : Store) (files : FileId → FileState) (said before line : List ℕ) (plans : List Plan) (mark : Bool) (m : Moment) → IsWithin store → IsAt store files said before m
+      → During moment left_since old new (IsLeftSaying files said line) → During moment left_since old new (IsLeftBy (Replied line plans mark ∷ []) before m)
+  reply_during old new store files said before line plans mark m within at during =
+      weakened moment left_since old new (IsLeftSaying files said line) (IsLeftBy (Replied line plans mark ∷ []) before m) during
+      (λ image text left. left_first (Replied line plans mark ∷ []) before m image text (image_stands store files image m.history within at.holds left.0) (subst (λ (s : List ℕ). IsFrontOf line s text) at.text left.1))
 
-  -- a statement that is done, before its reply
-  pub done_during : (old new : S) (history : History) (said before line : List ℕ) (mark : Bool) (m : Moment) → said ≡ before ++ m.said → During moment left_since old new (EitherStands m.history history said)
-      → During moment left_since old new (IsLeftBetween before m (record { history = history; said = m.said ++ line; refused = mark }))
-  done_during old new history said before line mark m is during =
-      weakened moment left_since old new (EitherStands m.history history said) (IsLeftBetween before m (record { history = history; said = m.said ++ line; refused = mark })) during
-      (λ image text left. done_left m history before said line mark image text is left)
+  -- while a table is made, before its reply
+  pub created_during : (old new : S) (def : TableDef) (events : List Event) (said before : List ℕ) (m : Moment) → said ≡ before ++ m.said → During moment left_since old new (EitherStands m.history (happen (Created def) m).history said)
+      → During moment left_since old new (IsLeftBy (Created def ∷ events) before m)
+  created_during old new def events said before m is during =
+      weakened moment left_since old new (EitherStands m.history (happen (Created def) m).history said) (IsLeftBy (Created def ∷ events) before m) during
+      (λ image text left. elim left.stands as (λ _. IsLeftBy (Created def ∷ events) before m image text) [
+        | inl first ↦ left_still (Created def ∷ events) before m image text first (left.text_left ∙ is)
+        | inr second ↦ left_second (Created def) events before m image text second (nothing_more _ (before ++ m.said) text (left.text_left ∙ is))
+      ])
 
-  -- and then its reply
-  pub replied_during : (old mid new : S) (store : Store) (files : FileId → FileState) (history : History) (said before line : List ℕ) (mark : Bool) (m : Moment) → HasRoom 0 store → Holds store files history → said ≡ before ++ m.said
-      → During moment left_since old mid (IsLeftBetween before m (record { history = history; said = m.said ++ line; refused = mark }))
-      → During moment left_since mid new (IsLeftSaying files said line)
-      → During moment left_since old new (IsLeftBetween before m (record { history = history; said = m.said ++ line; refused = mark }))
-  replied_during old mid new store files history said before line mark m room held is first second =
-      goes_on moment left_since old mid new (IsLeftBetween before m (record { history = history; said = m.said ++ line; refused = mark })) (IsLeftSaying files said line) first second
-      (λ image text left. inr (reply_left store files history said before m.said line image text room held is left))
+  -- and then the reply behind an event that says nothing
+  pub then_reply_during : (old mid new : S) (store : Store) (files : FileId → FileState) (event : Event) (said before line : List ℕ) (plans : List Plan) (mark : Bool) (m : Moment) → IsWithin store
+      → IsAt store files said before (happen event m) → During moment left_since old mid (IsLeftBy (event ∷ Replied line plans mark ∷ []) before m) → During moment left_since mid new (IsLeftSaying files said line)
+      → During moment left_since old new (IsLeftBy (event ∷ Replied line plans mark ∷ []) before m)
+  then_reply_during old mid new store files event said before line plans mark m within at first second =
+      goes_on moment left_since old mid new (IsLeftBy (event ∷ Replied line plans mark ∷ []) before m) (IsLeftSaying files said line) first second
+      (λ image text left. left_second event (Replied line plans mark ∷ []) before m image text (image_stands store files image (happen event m).history within at.holds left.0) (subst (λ (s : List ℕ). IsFrontOf line s text) at.text left.1))
+
+  -- calls that change nothing, and then a say
+  pub reads_then_says : (old mid new : S) (files between : FileId → FileState) (said now line : List ℕ) → During moment left_since old mid (IsLeft files said) → KeepsFiles files between → now ≡ said
+      → During moment left_since mid new (IsLeftSaying between now line) → During moment left_since old new (IsLeftSaying files said line)
+  reads_then_says old mid new files between said now line first kept same second =
+      goes_on moment left_since old mid new (IsLeftSaying files said line) (IsLeftSaying between now line)
+      (weakened moment left_since old mid (IsLeft files said) (IsLeftSaying files said line) first (λ image text left. (left.0, nothing_more line said text left.1)))
+      second
+      (λ image text left. (kept_image files between image kept left.0, subst (λ (s : List ℕ). IsFrontOf line s text) same left.1))

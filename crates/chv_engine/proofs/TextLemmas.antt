@@ -11,10 +11,26 @@ use Rattle.chv_engine.specs.Statements.{is_name}
 use Rattle.chv_engine.specs.Texts.{create_text}
 use Rattle.chv_engine.proofs.LexemeLemmas.{and-right}
 use Rattle.chv_engine.proofs.PrefixLemmas.{left}
-use Rattle.chv_gate.specs.GateLog.{IsPayload}
+use Rattle.chv_gate.specs.GateLog.{IsPayload, frame_of}
+use Rattle.chv_gate.proofs.GateLogLemmas.{length-frame_of}
+use Rattle.chv_engine.specs.Histories.{TableDef, IsDef, catalog_payload}
 
 pub IsPayload-create_text : (name column : List ℕ) → length name ≤ 64 → length column ≤ 64 → IsPayload (create_text name column)
 IsPayload-create_text name column short_name short_column = record { some = grind (arith, common_steps); most = grind (arith, common_steps, short_name, short_column) }
+
+-- a name has at most 64 bytes
+is_name-short : (name : List ℕ) → IsTrue (is_name name) → length name ≤ 64
+is_name-short name right = grind (arith, nat_tests, right)
+
+-- the canonical text of a table is a payload, and its frame has at most 256 bytes
+pub IsPayload-text : (def : TableDef) → IsDef def → IsPayload (catalog_payload def)
+IsPayload-text def named = IsPayload-create_text def.name def.column (is_name-short def.name named.name) (is_name-short def.column named.column)
+
+text_short : (name column : List ℕ) → length name ≤ 64 → length column ≤ 64 → length (create_text name column) ≤ 250
+text_short name column short_name short_column = grind (arith, common_steps, short_name, short_column)
+
+pub frame_short : (def : TableDef) → IsDef def → length (frame_of (catalog_payload def)) ≤ 256
+frame_short def named = omega (arith, length-frame_of (catalog_payload def), text_short def.name def.column (is_name-short def.name named.name) (is_name-short def.column named.column))
 
 -- what stands behind the space that follows the column, and behind the one that follows the name
 abbrev pub behind_column : List ℕ → List ℕ

@@ -1,82 +1,117 @@
--- What a script does, piece by piece.
-use Rattle.std.specs.Prelude.{ℕ, ◌+◌, List, [], ◌∷◌, ◌++◌, length, Bool, true, false, ◌==◌, if◌then◌else◌, Option, None, Some, option_map}
+-- What a run does, event by event.
+use Rattle.std.specs.Prelude.{ℕ, ◌+◌, Bool, true, false, List, [], ◌∷◌, ◌++◌, length, Option, None, Some, ◌||◌, nat_lt, if◌then◌else◌}
+use Rattle.std.specs.Option.{option_map}
 use Rattle.std.specs.Str.{bytes_eq}
-use Rattle.chv_engine.specs.Histories.{TableDef, Book, History, no_book, arrived, entry_of}
-use Rattle.chv_engine.specs.Replies.{ok_line, insert_line, refused_line}
+use Rattle.chv_ast.specs.declared.refusal.Refusal.{Refusal}
+use Rattle.chv_ast.specs.declared.refusal.Refusal.TheVariants.{UnknownTable, NameTaken, LimitPassed, NotBuilt}
+use Rattle.chv_table.specs.Books.{Entry, Book, arrived, entry_of, answer_of}
+use Rattle.chv_table.specs.Commits.{MAX_ENTRIES}
+use Rattle.chv_text.specs.Replies.{ok_line, insert_line, rows_line, refused_line}
+use Rattle.chv_text.specs.Rows.{rows_text}
+use Rattle.chv_engine.specs.Histories.{TableDef, History, with_book, with_table}
 use Rattle.chv_engine.specs.Script.{is_blank}
-use Rattle.chv_engine.specs.Statements.{Statement, CreateTable, Insert, statement_of}
-use Rattle.chv_engine.specs.declared.reply.Refusal.{Refusal}
-use Rattle.chv_engine.specs.declared.reply.Refusal.TheVariants.{NotBuilt, UnknownTable, NameTaken}
+use Rattle.chv_engine.specs.Statements.{Statement, CreateTable, Insert, SelectAll, statement_of}
 
--- between two statements: the history, the text said since the run began, and whether a statement was refused
+-- one block to one table
+pub record Delivery : Type 0 where
+  pub table : ℕ
+  pub entry : Entry
+
+-- an insert: its deliveries
+abbrev pub Plan : Type 0
+Plan = List Delivery
+
+-- one opened gate, or one reply: a table is made; an entry is committed to a table; a text is said, which acknowledges
+-- these inserts, and may refuse its statement
+pub data Event : Type 0 where
+  Created : TableDef → Event
+  Committed : Delivery → Event
+  Replied : List ℕ → List Plan → Bool → Event
+
+-- between two events: the history, the text said since the run began, the inserts that are acknowledged, and whether a
+-- statement was refused
 pub record Moment : Type 0 where
   pub history : History
   pub said : List ℕ
+  pub acknowledged : List Plan
   pub refused : Bool
 
--- a run begins with nothing said and nothing refused
+-- a run begins with nothing said, acknowledged or refused
 abbrev pub begins : History → Moment
-begins history = record { history = history; said = []; refused = false }
+begins history = record { history = history; said = []; acknowledged = []; refused = false }
+
+-- an entry arrives in its table
+abbrev pub delivered : Delivery → History → History
+delivered delivery history = with_book delivery.table (arrived delivery.entry (history.books delivery.table)) history
+
+-- the moment behind an event
+abbrev pub happen : Event → Moment → Moment
+happen (Created def) m = record m { history = with_table def m.history }
+happen (Committed delivery) m = record m { history = delivered delivery m.history }
+happen (Replied text plans refuses) m = record m { said = m.said ++ text; acknowledged = m.acknowledged ++ plans; refused = m.refused || refuses }
+
+-- the moment behind some events
+abbrev pub behind : List Event → Moment → Moment
+behind [] m = m
+behind (event ∷ events) m = behind events (happen event m)
 
 -- the number of the table of a name, counted from 1
 abbrev pub table_named : List ℕ → List TableDef → Option ℕ
 table_named name [] = None
 table_named name (def ∷ defs) = if bytes_eq def.name name then Some 1 else option_map (λ n. n + 1) (table_named name defs)
 
--- a history with another book for one table
-abbrev pub with_book : ℕ → Book → History → History
-with_book table book history = record history { books = λ n. if n == table then book else history.books n }
-
--- a refused statement adds its line and leaves the history
-abbrev pub refuse : Refusal → Moment → Moment
-refuse refusal m = record m { said = m.said ++ refused_line 0 refusal; refused = true }
-
--- a new table is the last, and its book is empty
-abbrev pub with_table : List ℕ → List ℕ → History → History
-with_table name column history =
-    let schema = history.schema ++ record { name = name; column = column } ∷ [] in
-    with_book (length schema) no_book (record history { schema = schema })
-
--- a table is made
-abbrev pub create : List ℕ → List ℕ → Moment → Moment
-create name column m = record m { history = with_table name column m.history; said = m.said ++ ok_line 0 }
-
--- a row arrives in a table as a block of its own
-abbrev pub insert : ℕ → ℕ → Moment → Moment
-insert table value m =
-    record m { history = with_book table (arrived (entry_of value) (m.history.books table)) m.history; said = m.said ++ insert_line 0 1 0 }
+-- a statement is refused
+abbrev pub refusal : Refusal → List Event
+refusal r = Replied (refused_line 0 r) [] true ∷ []
 
 -- only one table can be made so far
-abbrev pub create_first : List TableDef → List ℕ → List ℕ → Moment → Moment
-create_first [] name column m = create name column m
-create_first (def ∷ defs) name column m = refuse NotBuilt m
+abbrev pub create_first : List TableDef → TableDef → List Event
+create_first [] def = Created def ∷ Replied (ok_line 0) [] false ∷ []
+create_first (other ∷ others) def = refusal NotBuilt
 
--- the name is taken, or free
-abbrev pub create_new : Option ℕ → List ℕ → List ℕ → Moment → Moment
-create_new (Some table) name column m = refuse NameTaken m
-create_new None name column m = create_first m.history.schema name column m
+-- the name of a new table is taken, or free
+abbrev pub create_new : Option ℕ → List TableDef → TableDef → List Event
+create_new (Some table) schema def = refusal NameTaken
+create_new None schema def = create_first schema def
 
--- the table stands, or is unknown
-abbrev pub insert_known : Option ℕ → ℕ → Moment → Moment
-insert_known (Some table) value m = insert table value m
-insert_known None value m = refuse UnknownTable m
+-- a row arrives as a block of its own, and its insert is acknowledged
+abbrev pub insert_into : Delivery → List Event
+insert_into delivery = Committed delivery ∷ Replied (insert_line 0 1 0) ((delivery ∷ []) ∷ []) false ∷ []
 
--- what a piece of any other form gets, and what the two statements do
-abbrev pub step : Option Statement → Moment → Moment
-step None m = refuse NotBuilt m
-step (Some (CreateTable name column)) m = create_new (table_named name m.history.schema) name column m
-step (Some (Insert table value)) m = insert_known (table_named table m.history.schema) value m
+-- a row for a table that stands and has room, or not
+abbrev pub insert_known : Option ℕ → ℕ → History → List Event
+insert_known None value history = refusal UnknownTable
+insert_known (Some table) value history =
+    if nat_lt (length (history.books table).entries) MAX_ENTRIES then insert_into (record { table = table; entry = entry_of value }) else refusal LimitPassed
 
--- a store that this program cannot read yet refuses every statement
-abbrev pub read_as : Bool → List ℕ → Option Statement
-read_as true piece = statement_of piece
-read_as false piece = None
+-- what is said for all rows of a table
+abbrev pub shown_text : Book → List ℕ
+shown_text book = rows_text (answer_of book) ++ rows_line 0 (length (answer_of book))
+
+-- all rows of a table are shown
+abbrev pub show_rows : Book → List Event
+show_rows book = Replied (shown_text book) [] false ∷ []
+
+-- the rows of a table that stands, or not
+abbrev pub select_known : Option ℕ → History → List Event
+select_known None history = refusal UnknownTable
+select_known (Some table) history = show_rows (history.books table)
+
+-- the events of a piece's statement, and of a piece that has none
+abbrev pub statement_events : Option Statement → History → List Event
+statement_events None history = refusal NotBuilt
+statement_events (Some (CreateTable name column)) history =
+    create_new (table_named name history.schema) history.schema (record { name = name; column = column })
+statement_events (Some (Insert table value)) history = insert_known (table_named table history.schema) value history
+statement_events (Some (SelectAll table)) history = select_known (table_named table history.schema) history
 
 -- blank pieces are passed over
-abbrev pub answered : Bool → List ℕ → Moment → Moment
-answered readable piece m = if is_blank piece then m else step (read_as readable piece) m
+abbrev pub piece_events : List ℕ → History → List Event
+piece_events piece history = if is_blank piece then [] else statement_events (statement_of piece) history
 
--- the pieces are answered in order
-abbrev pub run : Bool → List (List ℕ) → Moment → Moment
-run readable [] m = m
-run readable (piece ∷ pieces) m = run readable pieces (answered readable piece m)
+-- the events of pieces that are answered in order
+abbrev pub run_events : List (List ℕ) → Moment → List Event
+run_events [] m = []
+run_events (piece ∷ pieces) m =
+    let events = piece_events piece m.history in
+    events ++ run_events pieces (behind events m)

@@ -1,5 +1,5 @@
 -- The statements of the language, and how they are written.
-use Rattle.std.specs.Prelude.{ℕ, ◌+◌, ◌-◌, ◌*◌, ◌^◌, ◌≤◌, ◌<◌, List, [], ◌∷◌, Bool, not, ◌&&◌, if◌then◌else◌, length, slice_get, nat_le, nat_lt, fold, codes, Option, Some, None}
+use Rattle.std.specs.Prelude.{ℕ, ◌+◌, ◌-◌, ◌*◌, ◌^◌, List, [], ◌∷◌, Bool, not, ◌&&◌, if◌then◌else◌, length, slice_get, nat_le, nat_lt, fold, codes, Option, Some, None, IsTrue}
 use Rattle.std.specs.List.{list_all, list_any}
 use Rattle.std.specs.Option.{option_map_or, option_or}
 use Rattle.std.specs.Char.{is_ascii_digit, is_ascii_lowercase}
@@ -12,6 +12,7 @@ use Rattle.chv_engine.specs.declared.parse.Statement.TheVariants as read
 pub data Statement : Type 0 where
   CreateTable : (name column : List ℕ) → Statement
   Insert : (table : List ℕ) (value : ℕ) → Statement
+  SelectAll : (table : List ℕ) → Statement
 
 -- the reserved words, as small letters spell them
 unfoldable pub reserved : List (List ℕ)
@@ -56,6 +57,10 @@ insert_form table digits =
     Word (codes "INSERT") ∷ Word (codes "INTO") ∷ Word table
     ∷ Word (codes "VALUES") ∷ Open ∷ Word digits ∷ Close ∷ []
 
+-- SELECT * FROM table
+abbrev pub select_form : List ℕ → List Lexeme
+select_form table = Word (codes "SELECT") ∷ Word (codes "*") ∷ Word (codes "FROM") ∷ Word table ∷ []
+
 -- the word at a place, and the empty one where there is none
 abbrev pub word_at : List Lexeme → ℕ → List ℕ
 word_at written place = option_map_or word_of (slice_get written place) []
@@ -76,16 +81,25 @@ inserted written =
     if is_name table && is_number digits && pointwise lexeme_eq written (insert_form table digits)
     then Some (Insert table (number_of digits)) else None
 
+-- the SELECT that the lexemes write, if they write one
+unfoldable pub selected : List Lexeme → Option Statement
+selected written =
+    let table = word_at written 3 in
+    if is_name table && pointwise lexeme_eq written (select_form table)
+    then Some (SelectAll table) else None
+
 -- the statement that a piece writes, if it writes one
 unfoldable pub statement_of : List ℕ → Option Statement
-statement_of piece = option_or (created (lexemes piece)) (inserted (lexemes piece))
+statement_of piece = option_or (created (lexemes piece)) (option_or (inserted (lexemes piece)) (selected (lexemes piece)))
 
--- names of 1 to 64 bytes, and a value of 64 bits
-abbrev pub IsSized : Statement → Type 0
-IsSized (CreateTable name column) = (1 ≤ length name) × (length name ≤ 64) × (1 ≤ length column) × (length column ≤ 64)
-IsSized (Insert table value) = (1 ≤ length table) × (length table ≤ 64) × (value < 2 ^ 64)
+-- the names of a statement are names of the language
+abbrev pub IsNamed : Statement → Type 0
+IsNamed (CreateTable name column) = IsTrue (is_name name) × IsTrue (is_name column)
+IsNamed (Insert table value) = IsTrue (is_name table)
+IsNamed (SelectAll table) = IsTrue (is_name table)
 
 -- a statement of the program, with the names that it borrows
 abbrev pub seen_statement : Read → Statement
 seen_statement (read.CreateTable name column) = CreateTable name.now column.now
 seen_statement (read.Insert table value) = Insert table.now value
+seen_statement (read.SelectAll table) = SelectAll table.now

@@ -1,19 +1,20 @@
-// How a statement is answered.
-ghost use Rattle.std.specs.Prelude.{◌≡◌, ◌+◌, ◌||◌, List, ℕ, Bool, true, false, option_map, IfOk, IfSome, OnOk};
-ghost use Rattle.chv_site.specs.Files.{KeepsFiles};
+// How a piece of a script is answered.
+ghost use Rattle.std.specs.Prelude.{◌≡◌, List, ℕ, true, false, Ok, Some, IfOk, OnOk, IsErrOf};
 ghost use Rattle.chv_site.specs.During.{During};
-ghost use Rattle.chv_engine.specs.Crashes.{IsLeftBetween};
+ghost use Rattle.chv_engine.specs.Crashes.{IsLeftBy};
 ghost use Rattle.chv_engine.specs.Faults.{IsCaused};
-ghost use Rattle.chv_engine.specs.Runs.{Moment, read_as, answered};
-ghost use Rattle.chv_engine.specs.Statements.{seen_statement, IsSized};
-ghost use Rattle.chv_engine.specs.Stores.{HasRoom, IsPlaced, IsAt};
+ghost use Rattle.chv_engine.specs.Meets.{SaysPartDamage, MeetsPart, TellsOrFails};
+ghost use Rattle.chv_engine.specs.Runs.{Moment, piece_events};
+ghost use Rattle.chv_engine.specs.Script.{is_blank};
+ghost use Rattle.chv_engine.specs.Statements.{SelectAll, statement_of};
+ghost use Rattle.chv_engine.specs.Stores.{IsWithin, IsPlaced, IsAt, AnswersAs};
 
 use crate::fault::RunFault;
 use crate::lex::is_blank;
 use crate::parse::{Statement, read_statement};
-use crate::reply::Refusal;
-use crate::say::say_refusal;
+use crate::say::refuse;
 use crate::store::Store;
+use chv_ast::Refusal;
 use chv_site::Site;
 use std::alloc::Global;
 
@@ -25,43 +26,31 @@ impl Store {
         site: &mut W,
         piece: &[u8],
     ) -> Result<bool, RunFault>
-        requires room { HasRoom 1 self.old }
+        requires within { IsWithin self.old }
         requires placed { W.tells → IsPlaced self.old (W.state site.old) }
-        ensures answered { W.tells → IfOk result (λ refused. (before : List ℕ) (mark : Bool) (m : Moment)
-            → IsAt self.old (W.state site.old) (W.said site.old) before mark m
-            → IsAt self.new (W.state site.new) (W.said site.new) before (mark || refused) (answered self.old.readable piece.now m)) }
-        // A crash at any moment of the call leaves what is between the two moments.
-        ensures during { W.tells → (before : List ℕ) (mark : Bool) (m : Moment) → self.old.readable ≡ true
-            → IsAt self.old (W.state site.old) (W.said site.old) before mark m
-            → During W.moment W.left_since site.old site.new (IsLeftBetween before m (answered self.old.readable piece.now m)) }
-        ensures unread { W.tells → self.old.readable ≡ false → KeepsFiles (W.state site.old) (W.state site.new) }
-        ensures readable { self.new.readable ≡ self.old.readable }
-        ensures room { OnOk result ((n : ℕ) → HasRoom (n + 1) self.old → HasRoom n self.new) }
+        ensures answered { W.tells → IfOk result (λ refused. (before : List ℕ) (m : Moment) → IsAt self.old (W.state site.old) (W.said site.old) before m
+            → AnswersAs self.new (W.state site.new) (W.said site.new) before refused (piece_events piece.now m.history) m) }
+        // A crash at any moment of the call leaves what is between its events.
+        ensures during { W.tells → (before : List ℕ) (m : Moment) → IsAt self.old (W.state site.old) (W.said site.old) before m
+            → During W.moment W.left_since site.old site.new (IsLeftBy (piece_events piece.now m.history) before m) }
+        // Damage is told where a part is damaged, and never where the files stand for a history.
+        ensures damaged { W.tells → IsErrOf result RunFault.Damaged → SaysPartDamage (λ f. (W.state site.new f).bytes) (W.said site.new) }
+        ensures undamaged { W.tells → (before : List ℕ) (m : Moment) → IsAt self.old (W.state site.old) (W.said site.old) before m → ¬ IsErrOf result RunFault.Damaged }
+        ensures meets { W.tells → (name line : List ℕ) → is_blank piece.now ≡ false → statement_of piece.now ≡ Some (SelectAll name)
+            → MeetsPart self.old (λ f. (W.state site.old f).bytes) name line → TellsOrFails result (W.said site.old) (W.said site.new) line }
+        ensures blank { is_blank piece.now ≡ true → (result ≡ Ok false) × (self.new ≡ self.old) × (site.new ≡ site.old) }
+        ensures within { OnOk result (IsWithin self.new) }
         ensures placed { W.tells → OnOk result (IsPlaced self.new (W.state site.new)) }
         ensures faults { IsCaused (W.disk_faults site.old) (W.disk_faults site.new) (W.say_faults site.old) (W.say_faults site.new) result }
     {
         if is_blank(piece) {
             return Ok(false);
         }
-        match self.read(piece) {
+        match read_statement(piece) {
             Some(Statement::CreateTable { name, column }) => self.create(alloc, site, name, column),
             Some(Statement::Insert { table, value }) => self.insert(alloc, site, table, value),
-            None => {
-                say_refusal(site, Refusal::NotBuilt)?;
-                Ok(true)
-            }
-        }
-    }
-
-    /// The statement of a piece; None where it has none of the forms, or the store cannot be read.
-    fn read<'a>(&self, piece: &'a [u8]) -> Option<Statement<'a>>
-        ensures value { option_map seen_statement result ≡ read_as self.now.readable piece.now }
-        ensures sized { IfSome result (λ statement. IsSized (seen_statement statement)) }
-    {
-        if self.readable {
-            read_statement(piece)
-        } else {
-            None
+            Some(Statement::SelectAll { table }) => self.select(alloc, site, table),
+            None => refuse(site, Refusal::NotBuilt),
         }
     }
 }

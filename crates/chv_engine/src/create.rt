@@ -1,28 +1,36 @@
 // CREATE TABLE.
-ghost use Rattle.std.specs.Prelude.{◌≡◌, ◌+◌, ◌≤◌, ◌||◌, List, ℕ, Bool, true, Some, None, length, IfOk, OnOk};
+ghost use Rattle.std.specs.Prelude.{◌≡◌, ◌≤◌, [], List, ℕ, Some, None, length, IfOk, IfErr, OnOk, IsErrOf};
 ghost use Rattle.chv_site.specs.During.{During};
-ghost use Rattle.chv_engine.specs.Crashes.{EitherStands, IsLeftBetween};
+ghost use Rattle.chv_gate.specs.GateLog.{frame_of};
+ghost use Rattle.chv_engine.specs.Crashes.{EitherStands, IsLeftBy};
 ghost use Rattle.chv_engine.specs.Faults.{IsCaused};
-ghost use Rattle.chv_engine.specs.Histories.{History};
-ghost use Rattle.chv_engine.specs.Runs.{Moment, step, with_table};
+ghost use Rattle.chv_engine.specs.Histories.{History, IsDef, with_table};
+ghost use Rattle.chv_engine.specs.Runs.{Moment, create_first, statement_events};
 ghost use Rattle.chv_engine.specs.Statements.{CreateTable};
-ghost use Rattle.chv_engine.specs.Stores.{HasRoom, IsPlaced, Holds, IsAt};
+ghost use Rattle.chv_engine.specs.Stores.{IsWithin, IsPlaced, Holds, IsAt, AnswersAs};
+ghost use Rattle.chv_engine.specs.Texts.{create_text};
 
 use crate::fault::RunFault;
+use crate::opening::FIRST_TABLE;
 use crate::print::create_text;
-use crate::reply::{Refusal, line_ok};
-use crate::say::{say_line, say_refusal};
-use crate::store::Store;
-use crate::table::Table;
-use chv_gate::{Log, begin, frame};
-use chv_site::{FIRST_PART, FileId, Site};
-use std::alloc::Global;
+use crate::say::{refuse, reply};
+use crate::store::{NamedTable, Store};
+use chv_ast::Refusal;
+use chv_gate::frame;
+use chv_site::Site;
+use chv_table::begin_table;
+use chv_text::line_ok;
+use std::alloc::{AllocError, Global};
 
-/// The number of the first table.
-const FIRST_TABLE: u32 = 1;
+/// A table that is spelled and not yet made: the frame of its text, and its name.
+#[derive(Debug, Drop)]
+struct Creation {
+    frame: Vec<u8>,
+    name: Vec<u8>,
+}
 
 impl Store {
-    /// Answers a CREATE TABLE statement; true where it was refused.
+    /// Answers a CREATE TABLE statement; true where it was refused. After an `Err` the store is not used again.
     pub fn create<W: Site>(
         &mut self,
         alloc: Global,
@@ -30,36 +38,50 @@ impl Store {
         name: &[u8],
         column: &[u8],
     ) -> Result<bool, RunFault>
-        requires room { HasRoom 1 self.old }
+        requires within { IsWithin self.old }
         requires placed { W.tells → IsPlaced self.old (W.state site.old) }
-        requires names { (length name.now ≤ 64) × (length column.now ≤ 64) }
-        ensures created { W.tells → IfOk result (λ refused. (before : List ℕ) (mark : Bool) (m : Moment) → self.old.readable ≡ true
-            → IsAt self.old (W.state site.old) (W.said site.old) before mark m
-            → IsAt self.new (W.state site.new) (W.said site.new) before (mark || refused) (step (Some (CreateTable name.now column.now)) m)) }
-        // A crash at any moment of the call leaves what is between the two moments.
-        ensures during { W.tells → (before : List ℕ) (mark : Bool) (m : Moment) → self.old.readable ≡ true
-            → IsAt self.old (W.state site.old) (W.said site.old) before mark m
-            → During W.moment W.left_since site.old site.new (IsLeftBetween before m (step (Some (CreateTable name.now column.now)) m)) }
-        ensures readable { self.new.readable ≡ self.old.readable }
-        ensures room { OnOk result ((n : ℕ) → HasRoom (n + 1) self.old → HasRoom n self.new) }
+        requires names { IsDef (record { name = name.now; column = column.now }) }
+        ensures answered { W.tells → IfOk result (λ refused. (before : List ℕ) (m : Moment) → IsAt self.old (W.state site.old) (W.said site.old) before m
+            → AnswersAs self.new (W.state site.new) (W.said site.new) before refused (statement_events (Some (CreateTable name.now column.now)) m.history) m) }
+        // A crash at any moment of the call leaves what is between its events.
+        ensures during { W.tells → (before : List ℕ) (m : Moment) → IsAt self.old (W.state site.old) (W.said site.old) before m
+            → During W.moment W.left_since site.old site.new (IsLeftBy (statement_events (Some (CreateTable name.now column.now)) m.history) before m) }
+        ensures undamaged { ¬ IsErrOf result RunFault.Damaged }
+        ensures within { OnOk result (IsWithin self.new) }
         ensures placed { W.tells → OnOk result (IsPlaced self.new (W.state site.new)) }
         ensures faults { IsCaused (W.disk_faults site.old) (W.disk_faults site.new) (W.say_faults site.old) (W.say_faults site.new) result }
     {
         match &self.table {
-            Some(table) if table.is_named(name) => {
-                say_refusal(site, Refusal::NameTaken)?;
-                Ok(true)
-            }
-            Some(_) => {
-                say_refusal(site, Refusal::NotBuilt)?;
-                Ok(true)
-            }
-            None => {
-                self.create_table(alloc, site, name, column)?;
-                say_line(site, &line_ok(0))?;
-                Ok(false)
-            }
+            Some(named) if named.is_named(name) => refuse(site, Refusal::NameTaken),
+            Some(_) => refuse(site, Refusal::NotBuilt),
+            None => self.create_first(alloc, site, name, column),
         }
+    }
+
+    // Makes the first table, and says the reply.
+    fn create_first<W: Site>(
+        &mut self,
+        alloc: Global,
+        site: &mut W,
+        name: &[u8],
+        column: &[u8],
+    ) -> Result<bool, RunFault>
+        requires within { IsWithin self.old }
+        requires placed { W.tells → IsPlaced self.old (W.state site.old) }
+        requires names { IsDef (record { name = name.now; column = column.now }) }
+        requires first { self.old.table ≡ None }
+        ensures answered { W.tells → IfOk result (λ refused. (before : List ℕ) (m : Moment) → IsAt self.old (W.state site.old) (W.said site.old) before m
+            → AnswersAs self.new (W.state site.new) (W.said site.new) before refused (create_first [] (record { name = name.now; column = column.now })) m) }
+        // A crash at any moment of the call leaves what is between its events.
+        ensures during { W.tells → (before : List ℕ) (m : Moment) → IsAt self.old (W.state site.old) (W.said site.old) before m
+            → During W.moment W.left_since site.old site.new (IsLeftBy (create_first [] (record { name = name.now; column = column.now })) before m) }
+        ensures undamaged { ¬ IsErrOf result RunFault.Damaged }
+        ensures within { OnOk result (IsWithin self.new) }
+        ensures placed { W.tells → OnOk result (IsPlaced self.new (W.state site.new)) }
+        ensures faults { IsCaused (W.disk_faults site.old) (W.disk_faults site.new) (W.say_faults site.old) (W.say_faults site.new) result }
+    {
+        self.create_table(alloc, site, name, column)?;
+        reply(site, line_ok(0).as_slice(), false)
     }
 
     // Makes the first table: its log is begun before the catalog's gate is opened.
@@ -70,33 +92,42 @@ impl Store {
         name: &[u8],
         column: &[u8],
     ) -> Result<(), RunFault>
-        requires room { HasRoom 1 self.old }
+        requires within { IsWithin self.old }
         requires placed { W.tells → IsPlaced self.old (W.state site.old) }
-        requires names { (length name.now ≤ 64) × (length column.now ≤ 64) }
+        requires names { IsDef (record { name = name.now; column = column.now }) }
         requires first { self.old.table ≡ None }
         ensures created { W.tells → OnOk result ((history : History) → Holds self.old (W.state site.old) history
-            → Holds self.new (W.state site.new) (with_table name.now column.now history)) }
-        ensures readable { self.new.readable ≡ self.old.readable }
-        ensures room { OnOk result ((n : ℕ) → HasRoom (n + 1) self.old → HasRoom n self.new) }
+            → Holds self.new (W.state site.new) (with_table (record { name = name.now; column = column.now }) history)) }
+        ensures undamaged { ¬ IsErrOf result RunFault.Damaged }
+        ensures within { OnOk result (IsWithin self.new) }
         ensures placed { W.tells → OnOk result (IsPlaced self.new (W.state site.new)) }
         ensures said { W.tells → W.said site.new ≡ W.said site.old }
         // A crash at any moment of the call leaves the history from before it, with the table or without.
         ensures during { W.tells → (history : History) → Holds self.old (W.state site.old) history → During W.moment W.left_since site.old site.new
-            (EitherStands history (with_table name.now column.now history) (W.said site.old)) }
+            (EitherStands history (with_table (record { name = name.now; column = column.now }) history) (W.said site.old)) }
         ensures faults { IsCaused (W.disk_faults site.old) (W.disk_faults site.new) (W.say_faults site.old) (W.say_faults site.new) result }
     {
-        let text = create_text(alloc, name, column)?;
-        let frame = frame(alloc, &text)?;
-        let name = Vec::from_slice(alloc, name)?;
-        let file = FileId::table_log(FIRST_TABLE);
-        begin(site, file)?;
-        self.catalog.append(site, &frame)?;
-        self.table = Some(Table {
-            number: FIRST_TABLE,
-            name,
-            log: Log::at(file, 0),
-            next_part: FIRST_PART,
+        let creation = spell_table(alloc, name, column)?;
+        let table = begin_table(site, FIRST_TABLE)?;
+        self.catalog.append(site, &creation.frame)?;
+        self.table = Some(NamedTable {
+            name: creation.name,
+            table,
         });
         Ok(())
     }
+}
+
+// The frame of a table's canonical text, and a copy of its name.
+fn spell_table(alloc: Global, name: &[u8], column: &[u8]) -> Result<Creation, AllocError>
+    requires { IsDef (record { name = name.now; column = column.now }) }
+    ensures frame { IfOk result (λ creation. creation.frame.items ≡ frame_of (create_text name.now column.now)) }
+    ensures short { IfOk result (λ creation. length creation.frame.items ≤ 256) }
+    ensures name { IfOk result (λ creation. creation.name.items ≡ name.now) }
+{
+    let text = create_text(alloc, name, column)?;
+    Ok(Creation {
+        frame: frame(alloc, &text)?,
+        name: Vec::from_slice(alloc, name)?,
+    })
 }

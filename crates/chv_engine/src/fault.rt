@@ -1,8 +1,10 @@
 // Why a run was ended.
 ghost use Rattle.std.specs.Prelude.{◌≡◌};
+ghost use Rattle.chv_engine.specs.Faults.{run_fault};
 ghost use Rattle.chv_engine.specs.declared.fault.RunFault.TheVariants.{Disk, NoMemory};
 
 use chv_site::Failed;
+use chv_table::PutFault;
 use std::alloc::AllocError;
 
 /// Why a run ended before its last statement was answered.
@@ -12,6 +14,8 @@ pub enum RunFault {
     Disk,
     /// A say failed.
     Say,
+    /// A file that was read is damaged. The line that tells it was said.
+    Damaged,
     /// There was no memory.
     NoMemory,
 }
@@ -29,5 +33,16 @@ impl From<Failed> for RunFault {
 
     fn from(_: Failed) -> Self {
         RunFault::Disk
+    }
+}
+
+impl From<PutFault> for RunFault {
+    ghost from_gives = { λ fault e. e ≡ run_fault fault };
+
+    fn from(fault: PutFault) -> Self {
+        match fault {
+            PutFault::Failed => RunFault::Disk,
+            PutFault::NoMemory => RunFault::NoMemory,
+        }
     }
 }

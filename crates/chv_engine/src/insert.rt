@@ -1,21 +1,26 @@
 // INSERT.
-ghost use Rattle.std.specs.Prelude.{◌≡◌, ◌+◌, ◌||◌, List, ℕ, Bool, true, Some, IfOk, OnOk};
+ghost use Rattle.std.specs.Prelude.{◌≡◌, List, ℕ, Some, IfOk, OnOk, IsErrOf};
 ghost use Rattle.chv_site.specs.During.{During};
-ghost use Rattle.chv_engine.specs.Crashes.{IsLeftBetween};
+ghost use Rattle.chv_table.specs.Books.{Book};
+ghost use Rattle.chv_table.specs.Tables.{IsWithin as IsTableWithin, IsPlaced as IsTablePlaced, HoldsBook, KeepsTables};
+ghost use Rattle.chv_engine.specs.Crashes.{IsLeftBy};
 ghost use Rattle.chv_engine.specs.Faults.{IsCaused};
-ghost use Rattle.chv_engine.specs.Runs.{Moment, step};
+ghost use Rattle.chv_engine.specs.Inserts.{InsertsRow, RowLeft};
+ghost use Rattle.chv_engine.specs.Runs.{Moment, statement_events};
 ghost use Rattle.chv_engine.specs.Statements.{Insert};
-ghost use Rattle.chv_engine.specs.Stores.{HasRoom, IsPlaced, IsAt};
+ghost use Rattle.chv_engine.specs.Stores.{IsWithin, IsPlaced, IsAt, AnswersAs};
 
 use crate::fault::RunFault;
-use crate::reply::{Refusal, line_insert};
-use crate::say::{say_line, say_refusal};
-use crate::store::Store;
+use crate::say::{refuse, reply};
+use crate::store::{NamedTable, Store};
+use chv_ast::Refusal;
 use chv_site::Site;
+use chv_table::MAX_ENTRIES;
+use chv_text::line_insert;
 use std::alloc::Global;
 
 impl Store {
-    /// Answers an INSERT of one row; true where it was refused.
+    /// Answers an INSERT of one row; true where it was refused. After an `Err` the store is not used again.
     pub fn insert<W: Site>(
         &mut self,
         alloc: Global,
@@ -23,30 +28,50 @@ impl Store {
         name: &[u8],
         value: u64,
     ) -> Result<bool, RunFault>
-        requires room { HasRoom 1 self.old }
+        requires within { IsWithin self.old }
         requires placed { W.tells → IsPlaced self.old (W.state site.old) }
-        ensures inserted { W.tells → IfOk result (λ refused. (before : List ℕ) (mark : Bool) (m : Moment) → self.old.readable ≡ true
-            → IsAt self.old (W.state site.old) (W.said site.old) before mark m
-            → IsAt self.new (W.state site.new) (W.said site.new) before (mark || refused) (step (Some (Insert name.now value)) m)) }
-        // A crash at any moment of the call leaves what is between the two moments.
-        ensures during { W.tells → (before : List ℕ) (mark : Bool) (m : Moment) → self.old.readable ≡ true
-            → IsAt self.old (W.state site.old) (W.said site.old) before mark m
-            → During W.moment W.left_since site.old site.new (IsLeftBetween before m (step (Some (Insert name.now value)) m)) }
-        ensures readable { self.new.readable ≡ self.old.readable }
-        ensures room { OnOk result ((n : ℕ) → HasRoom (n + 1) self.old → HasRoom n self.new) }
+        ensures answered { W.tells → IfOk result (λ refused. (before : List ℕ) (m : Moment) → IsAt self.old (W.state site.old) (W.said site.old) before m
+            → AnswersAs self.new (W.state site.new) (W.said site.new) before refused (statement_events (Some (Insert name.now value)) m.history) m) }
+        // A crash at any moment of the call leaves what is between its events.
+        ensures during { W.tells → (before : List ℕ) (m : Moment) → IsAt self.old (W.state site.old) (W.said site.old) before m
+            → During W.moment W.left_since site.old site.new (IsLeftBy (statement_events (Some (Insert name.now value)) m.history) before m) }
+        ensures undamaged { ¬ IsErrOf result RunFault.Damaged }
+        ensures within { OnOk result (IsWithin self.new) }
         ensures placed { W.tells → OnOk result (IsPlaced self.new (W.state site.new)) }
         ensures faults { IsCaused (W.disk_faults site.old) (W.disk_faults site.new) (W.say_faults site.old) (W.say_faults site.new) result }
     {
         match &mut self.table {
-            Some(table) if table.is_named(name) => {
-                table.deliver(alloc, site, value)?;
-                say_line(site, &line_insert(0, 1, 0))?;
-                Ok(false)
-            }
-            _ => {
-                say_refusal(site, Refusal::UnknownTable)?;
-                Ok(true)
-            }
+            Some(named) if named.is_named(name) => named.insert_row(alloc, site, value),
+            _ => refuse(site, Refusal::UnknownTable),
         }
+    }
+}
+
+impl NamedTable {
+    // Delivers a row to the table, where it has room for one, and says the reply; true where it was refused.
+    fn insert_row<W: Site>(
+        &mut self,
+        alloc: Global,
+        site: &mut W,
+        value: u64,
+    ) -> Result<bool, RunFault>
+        requires within { IsTableWithin self.old.table }
+        requires placed { W.tells → IsTablePlaced self.old.table (W.state site.old) }
+        ensures inserted { W.tells → IfOk result (λ refused. (book : Book) → HoldsBook self.old.table (W.state site.old) book
+            → InsertsRow self.new.table (W.state site.new) value book (W.said site.old) (W.said site.new) refused) }
+        ensures during { W.tells → (book : Book) → HoldsBook self.old.table (W.state site.old) book → During W.moment W.left_since site.old site.new
+            (RowLeft self.old.table.number value book (W.state site.old) (W.said site.old)) }
+        ensures undamaged { ¬ IsErrOf result RunFault.Damaged }
+        ensures within { OnOk result (IsTableWithin self.new.table) }
+        ensures placed { W.tells → OnOk result (IsTablePlaced self.new.table (W.state site.new)) }
+        ensures same { (self.new.name.items ≡ self.old.name.items) × (self.new.table.number ≡ self.old.table.number) }
+        ensures others { W.tells → KeepsTables self.old.table.number (W.state site.old) (W.state site.new) }
+        ensures faults { IsCaused (W.disk_faults site.old) (W.disk_faults site.new) (W.say_faults site.old) (W.say_faults site.new) result }
+    {
+        if self.table.entries() == MAX_ENTRIES {
+            return refuse(site, Refusal::LimitPassed);
+        }
+        self.table.deliver(alloc, site, value)?;
+        reply(site, line_insert(0, 1, 0).as_slice(), false)
     }
 }

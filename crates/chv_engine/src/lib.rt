@@ -2,39 +2,37 @@
 #![tactic(auto)]
 
 mod answer;
-mod block;
-mod commit;
+#[cfg(test)]
+mod canonical_texts;
 mod create;
+mod damage;
+#[cfg(test)]
+mod damage_lines;
 mod define;
 mod fault;
-mod files;
 mod insert;
+mod laws;
 mod lex;
-mod parse;
-mod part;
-mod part_read;
+mod opening;
 #[cfg(test)]
-mod part_tests;
+mod opening_tests;
+mod parse;
 mod prefix;
 mod print;
 mod pull;
-#[cfg(test)]
-mod read_back;
-mod reply;
 mod run;
 #[cfg(test)]
 mod runs;
 mod say;
+mod select;
 mod status;
 mod store;
-mod table;
 #[cfg(test)]
 mod tests;
 mod top;
 mod words;
-#[cfg(test)]
-mod worked_bytes;
 
+pub use laws::{law_acknowledged, law_held};
 pub use status::Status;
 pub use top::chviews;
 pub use words::{Command, Words, read_words};

@@ -5,7 +5,7 @@ ghost use Rattle.std.specs.List.{list_all, list_any};
 ghost use Rattle.std.specs.Char.{is_ascii_lowercase};
 ghost use Rattle.std.specs.Str.{bytes_eq};
 ghost use Rattle.chv_engine.specs.Lexemes.{Lexeme as Seen, Word, lexeme_eq, lexemes, seen};
-ghost use Rattle.chv_engine.specs.Statements.{is_name, is_number, is_reserved, number_of, created, inserted, statement_of, seen_statement, IsSized};
+ghost use Rattle.chv_engine.specs.Statements.{is_name, is_number, is_reserved, number_of, created, inserted, selected, statement_of, seen_statement, IsNamed};
 
 use crate::lex::{Lexeme, next_lexeme};
 
@@ -38,18 +38,22 @@ pub enum Statement<'a> {
     CreateTable { name: &'a [u8], column: &'a [u8] },
     /// Puts one value into a table.
     Insert { table: &'a [u8], value: u64 },
+    /// Shows all rows of a table.
+    SelectAll { table: &'a [u8] },
 }
 
-/// The statement that a piece writes; None exactly where it has neither of the forms.
+/// The statement that a piece writes; None exactly where it has none of the forms.
 pub fn read_statement(piece: &[u8]) -> Option<Statement<'_>>
     ensures value { option_map seen_statement result ≡ statement_of piece.now }
-    ensures sized { IfSome result (λ statement. IsSized (seen_statement statement)) }
+    ensures named { IfSome result (λ statement. IsNamed (seen_statement statement)) }
 {
     let (first, rest) = read_word(piece)?;
     if first == b"CREATE".as_slice() {
         read_create(rest)
     } else if first == b"INSERT".as_slice() {
         read_insert(rest)
+    } else if first == b"SELECT".as_slice() {
+        read_select(rest)
     } else {
         None
     }
@@ -94,6 +98,18 @@ fn read_insert(rest: &[u8]) -> Option<Statement<'_>>
     match next_lexeme(rest) {
         Some(_) => None,
         None => Some(Statement::Insert { table, value }),
+    }
+}
+
+// A SELECT, from behind its first word.
+fn read_select(rest: &[u8]) -> Option<Statement<'_>>
+    ensures { option_map seen_statement result ≡ selected (Word (codes "SELECT") ∷ lexemes rest.now) }
+{
+    let rest = behind(rest, &[Lexeme::Word(b"*"), Lexeme::Word(b"FROM")])?;
+    let (table, rest) = read_name(rest)?;
+    match next_lexeme(rest) {
+        Some(_) => None,
+        None => Some(Statement::SelectAll { table }),
     }
 }
 

@@ -1,6 +1,6 @@
 // Whole runs over a source and a site in memory.
 use crate::{Status, Words, chviews};
-use chv_site::{Fails, FileId, MemSite, MemSource, Pick};
+use chv_site::{Fails, FileId, MemSite, MemSource, Pick, Site};
 use std::alloc::{AllocError, Global};
 use std::test::Fail;
 
@@ -34,7 +34,7 @@ fn run(alloc: Global, site: &mut MemSite, script: &[u8]) -> Result<Status, Alloc
 
 #[test]
 fn each_piece_is_answered(rt: HostRuntime) -> Result<(), Fail> {
-    let cases: [(&[u8], Status, &[u8]); 7] = [
+    let cases: [(&[u8], Status, &[u8]); 9] = [
         (b"", Status::Done, b""),
         (b" ;\n; ", Status::Done, b""),
         (
@@ -60,7 +60,17 @@ fn each_piece_is_answered(rt: HostRuntime) -> Result<(), Fail> {
         (
             b"SELECT * FROM t;\xff\x00",
             Status::SomeRefused,
-            b"@0 Refused 16 NotBuilt\n@0 Refused 16 NotBuilt\n",
+            b"@0 Refused 2 UnknownTable\n@0 Refused 16 NotBuilt\n",
+        ),
+        (
+            b"CREATE TABLE t (a UInt64) ENGINE = MergeTree ORDER BY a; SELECT * FROM t; SELECT * FROM u",
+            Status::SomeRefused,
+            b"@0 Ok.\n@0 Ok. 0 rows\n@0 Refused 2 UnknownTable\n",
+        ),
+        (
+            b"CREATE TABLE t (a UInt64) ENGINE = MergeTree ORDER BY a; INSERT INTO t VALUES (20); INSERT INTO t VALUES (3); INSERT INTO t VALUES (18446744073709551615); INSERT INTO t VALUES (3); SELECT * FROM t",
+            Status::Done,
+            b"@0 Ok.\n@0 Ok. 1 written, 0 skipped\n@0 Ok. 1 written, 0 skipped\n@0 Ok. 1 written, 0 skipped\n@0 Ok. 1 written, 0 skipped\n3\n3\n20\n18446744073709551615\n@0 Ok. 4 rows\n",
         ),
     ];
     for (script, status, said) in cases {
@@ -94,18 +104,89 @@ fn files_have_the_worked_bytes(rt: HostRuntime) -> Result<(), Fail> {
     Ok(())
 }
 
-// A store with a table is not read yet: each statement is refused, and its files stay.
+// A later run has what the runs before it left.
 #[test]
-fn a_store_with_a_table_refuses_each_statement(rt: HostRuntime) -> Result<(), Fail> {
-    let mut site = MemSite::new(rt.alloc(), Fails::new(rt.alloc()));
-    assert_eq!(rt; run(rt.alloc(), &mut site, CREATE)?, Status::Done);
-    let mut later = site.crash(Pick::New)?;
-    assert_eq!(rt; run(rt.alloc(), &mut later, FIRST)?, Status::SomeRefused);
+fn a_later_run_goes_on_with_the_store(rt: HostRuntime) -> Result<(), Fail> {
+    let mut first = MemSite::new(rt.alloc(), Fails::new(rt.alloc()));
+    assert_eq!(rt; run(rt.alloc(), &mut first, FIRST)?, Status::Done);
+    let mut second = first.crash(Pick::New)?;
+    let script = b"INSERT INTO t VALUES (0); SELECT * FROM t;";
+    assert_eq!(rt; run(rt.alloc(), &mut second, script)?, Status::Done);
     assert_eq!(rt;
-        later.said(),
-        b"@0 Refused 16 NotBuilt\n@0 Refused 16 NotBuilt\n".as_slice()
+        second.said(),
+        b"@0 Ok. 1 written, 0 skipped\n0\n1\n@0 Ok. 2 rows\n".as_slice()
     );
-    assert_eq!(rt; later.file(FileId::table_log(1)), b"\0".as_slice());
+    let mut third = second.crash(Pick::Old)?;
+    let script = b"CREATE TABLE t (a UInt64) ENGINE = MergeTree ORDER BY a; SELECT * FROM t;";
+    assert_eq!(rt; run(rt.alloc(), &mut third, script)?, Status::SomeRefused);
+    assert_eq!(rt;
+        third.said(),
+        b"@0 Refused 4 NameTaken\n0\n1\n@0 Ok. 2 rows\n".as_slice()
+    );
+    Ok(())
+}
+
+// A gate that a crash left open alone, in the catalog's log and in the first table's.
+#[test]
+fn a_lone_open_gate_is_none(rt: HostRuntime) -> Result<(), Fail> {
+    let mut site = MemSite::new(rt.alloc(), Fails::new(rt.alloc()));
+    site.put(FileId::catalog_log(), 0, &[1])?;
+    site.put(FileId::table_log(1), 0, &[1])?;
+    assert_eq!(rt; run(rt.alloc(), &mut site, b"")?, Status::Done);
+    assert_eq!(rt; site.file(FileId::catalog_log()), b"\0".as_slice());
+    assert_eq!(rt; run(rt.alloc(), &mut site, FIRST)?, Status::Done);
+    assert_eq!(rt;
+        site.said(),
+        b"@0 Ok.\n@0 Ok. 1 written, 0 skipped\n".as_slice()
+    );
+    Ok(())
+}
+
+// The store of the first run with bytes of one file changed from a place on, or cut off there.
+fn damaged(alloc: Global, file: FileId, at: u64, bytes: &[u8]) -> Result<MemSite, Fail> {
+    let mut first = MemSite::new(alloc, Fails::new(alloc));
+    let _ = run(alloc, &mut first, FIRST)?;
+    let mut site = first.crash(Pick::New)?;
+    if bytes.is_empty() {
+        site.discard(file)?;
+    } else if at <= site.size(file)? {
+        site.put(file, at, bytes)?;
+    }
+    Ok(site)
+}
+
+#[test]
+fn damage_is_told_and_ends_the_run(rt: HostRuntime) -> Result<(), Fail> {
+    let alloc = rt.alloc();
+    let script = b" ; SELECT * FROM t; INSERT INTO t VALUES (2)";
+    let cases: [(FileId, u64, &[u8], &[u8]); 8] = [
+        // A length past the end, one of 0, and a name that is none.
+        (FileId::catalog_log(), 2, b"\x01", b"Damaged catalog at 1\n"),
+        (FileId::catalog_log(), 1, b"\0", b"Damaged catalog at 1\n"),
+        (FileId::catalog_log(), 18, b"T", b"Damaged catalog at 1\n"),
+        // A second frame that is none, another kind of commit, and another part.
+        (
+            FileId::table_log(1),
+            42,
+            b"\x01\x02",
+            b"Damaged log of t at 43\n",
+        ),
+        (FileId::table_log(1), 5, b"\x02", b"Damaged log of t at 1\n"),
+        (FileId::table_log(1), 6, b"\x09", b"Damaged log of t at 1\n"),
+        // Another hash, and no file.
+        (
+            FileId::part(1, 8),
+            16,
+            b"\x68",
+            b"Damaged part 8 of t: kept e6765cdcd5cf1168, found e6765cdcd5cf1169\n",
+        ),
+        (FileId::part(1, 8), 0, b"", b"Damaged part 8 of t: shape\n"),
+    ];
+    for (file, at, bytes, line) in cases {
+        let mut site = damaged(alloc, file, at, bytes)?;
+        assert_eq!(rt; run(alloc, &mut site, script)?, Status::Damaged);
+        assert_eq!(rt; site.said(), line);
+    }
     Ok(())
 }
 
@@ -157,29 +238,34 @@ fn a_script_has_at_most_64_mebibytes(rt: HostRuntime) -> Result<(), Fail> {
     Ok(())
 }
 
-// The site is stopped at each call of a run, and then crashes: a row whose line was said is on the disk.
+// A call of a run fails, or the site is stopped there; it crashes, and a later run shows the rows: a row whose line was
+// said is among them.
 #[test]
 fn an_acknowledged_row_survives_a_crash(rt: HostRuntime) -> Result<(), Fail> {
     let alloc = rt.alloc();
-    let acknowledged = b"@0 Ok.\n@0 Ok. 1 written, 0 skipped\n".as_slice();
-    for call in 1..30 {
-        for pick in [
-            Pick::Old,
-            Pick::New,
-            Pick::Torn { byte: 0 },
-            Pick::Torn { byte: 1 },
-        ] {
-            let mut site = MemSite::new(alloc, Fails::new(alloc));
-            site.stop_at(call);
-            let status = run(alloc, &mut site, FIRST)?;
-            let said = site.said() == acknowledged;
-            assert_eq!(rt; status == Status::Done, said, "stopped at {call}");
-            let left = site.crash(pick)?;
-            let log = left.file(FileId::table_log(1));
-            let is_committed = log.len() == 43 && log.first() == Some(&1);
-            let part = left.file(FileId::part(1, 8));
-            assert!(rt; is_committed || !said, "stopped at {call}");
-            assert!(rt; part.len() == 45 || !is_committed, "stopped at {call}");
+    let later =
+        b"CREATE TABLE t (a UInt64) ENGINE = MergeTree ORDER BY a; INSERT INTO t VALUES (2); SELECT * FROM t;";
+    for call in 1..32 {
+        for stops in [false, true] {
+            for pick in [
+                Pick::Old,
+                Pick::New,
+                Pick::Torn { byte: 0 },
+                Pick::Torn { byte: 1 },
+            ] {
+                let mut site = MemSite::new(alloc, failing(alloc, call)?);
+                if stops {
+                    site.stop_at(call);
+                }
+                let status = run(alloc, &mut site, FIRST)?;
+                let said = site.said() == b"@0 Ok.\n@0 Ok. 1 written, 0 skipped\n".as_slice();
+                assert_eq!(rt; status == Status::Done, said, "call {call}");
+                let mut left = site.crash(pick)?;
+                let _ = run(alloc, &mut left, later)?;
+                let both = left.said().ends_with(b"skipped\n1\n2\n@0 Ok. 2 rows\n");
+                let one = left.said().ends_with(b"skipped\n2\n@0 Ok. 1 rows\n");
+                assert!(rt; both || one && !said, "call {call}");
+            }
         }
     }
     Ok(())

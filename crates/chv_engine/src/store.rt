@@ -1,49 +1,31 @@
 // What a run holds of its store.
-ghost use Rattle.std.specs.Prelude.{◌≡◌, ◌<◌, ◌≤◌, ◌^◌, ◌++◌, ◌||◌, List, ℕ, Bool, true, false, length, IfOk, OnOk};
-ghost use Rattle.chv_site.specs.declared.file_id.FileId.{FileId};
-ghost use Rattle.chv_site.specs.Faults.{IsCounted};
-ghost use Rattle.chv_site.specs.Files.{KeepsFiles};
-ghost use Rattle.chv_site.specs.During.{During};
-ghost use Rattle.chv_engine.specs.Crashes.{StillNew};
-ghost use Rattle.chv_engine.specs.Histories.{no_history};
-ghost use Rattle.chv_engine.specs.Stores.{HasRoom, IsPlaced, Holds, IsNew};
+ghost use Rattle.std.specs.Prelude.{◌≡◌};
+ghost use Rattle.std.specs.Str.{bytes_eq};
 
-use crate::table::Table;
-use chv_gate::{Log, begin};
-use chv_site::{Failed, FileId, Site};
+use chv_gate::Log;
+use chv_table::Table;
 
-/// The store while a run goes on.
+/// A table with its name.
 #[derive(Debug, Drop)]
-pub struct Store {
-    /// Whether it was new as the run began. A store with tables cannot be read yet.
-    pub readable: bool,
-    /// The catalog's log.
-    pub catalog: Log,
-    /// The table, where one was made.
-    pub table: Option<Table>,
+pub struct NamedTable {
+    pub name: Vec<u8>,
+    pub table: Table,
 }
 
-/// Opens the store: begins the catalog's log, and sees whether it is new.
-pub fn open_store<W: Site>(site: &mut W) -> Result<Store, Failed>
-    ensures new { W.tells → IfOk result (λ store. IsNew (W.state site.old) → (store.readable ≡ true) × Holds store (W.state site.new) no_history) }
-    // A crash at any moment of the call leaves a new store new.
-    ensures during { W.tells → IsNew (W.state site.old) → During W.moment W.left_since site.old site.new (StillNew (W.said site.old)) }
-    ensures unread { W.tells → 1 < length (W.state site.old (record { table = 0; part = 0 })).bytes
-        → IfOk result (λ store. store.readable ≡ false) }
-    ensures kept { W.tells → 1 < length (W.state site.old (record { table = 0; part = 0 })).bytes
-        → OnOk result ((f : FileId) → (W.state site.new f).bytes ≡ (W.state site.old f).bytes) }
-    ensures room { IfOk result (λ store. (n : ℕ) → n ≤ 2 ^ 32 → HasRoom n store) }
-    ensures placed { W.tells → IfOk result (λ store. IsPlaced store (W.state site.new)) }
-    ensures said { W.tells → W.said site.new ≡ W.said site.old }
-    ensures failed { IsCounted (W.disk_faults site.old) (W.disk_faults site.new) result }
-    ensures other_faults { W.say_faults site.new ≡ W.say_faults site.old }
-{
-    let file = FileId::catalog_log();
-    begin(site, file)?;
-    let readable = site.size(file)? <= 1;
-    Ok(Store {
-        readable,
-        catalog: Log::at(file, 0),
-        table: None,
-    })
+impl NamedTable {
+    /// Whether this is the table's name.
+    pub fn is_named(&self, name: &[u8]) -> bool
+        ensures { result ≡ bytes_eq self.now.name.items name.now }
+    {
+        self.name.as_slice() == name
+    }
+}
+
+/// The store while a run goes on: what later statements need of its logs, so that none is read again.
+#[derive(Debug, Drop)]
+pub struct Store {
+    /// The catalog's log.
+    pub catalog: Log,
+    /// The table, where one stands.
+    pub table: Option<NamedTable>,
 }

@@ -8,6 +8,8 @@ const ORDERS: Option<Statement<'static>> = Some(Statement::CreateTable {
     column: b"id",
 });
 
+const SELECT: Option<Statement<'static>> = Some(Statement::SelectAll { table: b"orders" });
+
 const A_64: &'static [u8] = b"aaaaaaaaaaaaaaaaaaaaaaaaaaaaaaaaaaaaaaaaaaaaaaaaaaaaaaaaaaaaaaaa";
 
 fn inserted(value: u64) -> Option<Statement<'static>> {
@@ -18,8 +20,8 @@ fn inserted(value: u64) -> Option<Statement<'static>> {
 }
 
 #[test]
-fn both_forms_are_read(rt: HostRuntime) -> Result<(), Fail> {
-    let cases: [(&[u8], Option<Statement<'_>>); 14] = [
+fn each_form_is_read(rt: HostRuntime) -> Result<(), Fail> {
+    let cases: [(&[u8], Option<Statement<'_>>); 16] = [
         (
             b"CREATE TABLE orders (id UInt64) ENGINE = MergeTree ORDER BY id",
             ORDERS,
@@ -75,6 +77,8 @@ fn both_forms_are_read(rt: HostRuntime) -> Result<(), Fail> {
                 value: 1,
             }),
         ),
+        (b"SELECT * FROM orders", SELECT),
+        (b"\n SELECT\t*\r\nFROM  orders ", SELECT),
     ];
     for (piece, statement) in cases {
         assert_eq!(rt; read_statement(piece), statement);
@@ -83,8 +87,8 @@ fn both_forms_are_read(rt: HostRuntime) -> Result<(), Fail> {
 }
 
 #[test]
-fn another_piece_has_neither_form(rt: HostRuntime) -> Result<(), Fail> {
-    let cases: [&[u8]; 38] = [
+fn another_piece_has_no_form(rt: HostRuntime) -> Result<(), Fail> {
+    let cases: [&[u8]; 45] = [
         b"",
         b" \t\r\n",
         b"CREATE",
@@ -128,6 +132,14 @@ fn another_piece_has_neither_form(rt: HostRuntime) -> Result<(), Fail> {
         b"INSERT INTO orders VALUES (+1)",
         b"INSERT INTO orders VALUES (1.0)",
         b"INSERT INTO orders VALUES (1 2)",
+        // All columns of one table, and the star stands apart.
+        b"SELECT *FROM orders",
+        b"SELECT* FROM orders",
+        b"SELECT (*) FROM orders",
+        b"SELECT id FROM orders",
+        b"SELECT * FROM",
+        b"SELECT * FROM orders orders",
+        b"select * from orders",
     ];
     for piece in cases {
         assert_eq!(rt; read_statement(piece), None);

@@ -1,13 +1,14 @@
 // The whole call.
-ghost use Rattle.std.specs.Prelude.{◌≡◌, ◌≢◌, ◌⊎◌, ◌<◌, ◌≤◌, ◌^◌, [], true, length};
+ghost use Rattle.std.specs.Prelude.{◌≡◌, ◌≢◌, ◌⊎◌, ◌<◌, ◌≤◌, ◌^◌, [], List, ℕ, length};
 ghost use Rattle.chv_site.specs.Faults.{HasRisen};
 ghost use Rattle.chv_site.specs.During.{During};
-ghost use Rattle.chv_engine.specs.Crashes.{IsLeftByRun};
-ghost use Rattle.chv_engine.specs.Ends.{IfEnded, EndsUnlessNoMemory, HasCause, PulledAs, LeavesSite};
-ghost use Rattle.chv_engine.specs.Histories.{no_history};
-ghost use Rattle.chv_engine.specs.Runs.{begins};
+ghost use Rattle.chv_engine.specs.Crashes.{IsLeftBy};
+ghost use Rattle.chv_engine.specs.Damage.{IsOpeningDamaged, MeetsDamage};
+ghost use Rattle.chv_engine.specs.Ends.{IfEnded, EndsWithoutFault, HasCause, SaysDamage, AnswersDamage, PulledAs, LeavesSite};
+ghost use Rattle.chv_engine.specs.Histories.{History, Settles};
+ghost use Rattle.chv_engine.specs.Runs.{begins, run_events};
 ghost use Rattle.chv_engine.specs.Script.{pieces_of};
-ghost use Rattle.chv_engine.specs.Stores.{IsNew, EndsNew, EndsUnread};
+ghost use Rattle.chv_engine.specs.Stores.{EndsAt};
 ghost use Rattle.chv_engine.specs.Words.{run_words};
 
 use crate::fault::RunFault;
@@ -19,7 +20,7 @@ use std::alloc::Global;
 
 /// Does what the words ask. `run` pulls the source to its end, and answers its statements on the store that the site holds.
 ///
-/// After a status from `DiskFault` on nothing is said here of files and text: the run is cut off where it was.
+/// A status from `DiskFault` on cuts the run off where it was: the files then stand for the history of some moment of it.
 pub fn chviews<S: Source, W: Site>(
     alloc: Global,
     words: &Words,
@@ -32,22 +33,29 @@ pub fn chviews<S: Source, W: Site>(
     ensures pulled { S.tells → PulledAs result (S.left source.old) (S.left source.new) }
     ensures untouched { LeavesSite result site.old site.new }
     ensures cause { HasCause result (S.faults source.old) (S.faults source.new) (W.disk_faults site.old) (W.disk_faults site.new) (W.say_faults site.old) (W.say_faults site.new) }
-    // Without a fault the run comes to its end.
+    // Without a fault the run comes to its end, or to damage.
     ensures complete { words.now ≡ run_words → S.tells → length (S.left source.old) ≤ 2 ^ 26
         → ¬ HasRisen (S.faults source.old) (S.faults source.new) → ¬ HasRisen (W.disk_faults site.old) (W.disk_faults site.new)
-        → ¬ HasRisen (W.say_faults site.old) (W.say_faults site.new) → EndsUnlessNoMemory result }
+        → ¬ HasRisen (W.say_faults site.old) (W.say_faults site.new) → EndsWithoutFault result }
     // A run that comes to its end has read the whole script.
     ensures whole { S.tells → IfEnded result (λ refused. S.left source.new ≡ []) }
-    // On a new store it has said the replies of all pieces, and the files stand for the history that the accepted ones make.
-    ensures new { S.tells → W.tells → IsNew (W.state site.old)
-        → IfEnded result (EndsNew (S.left source.old) (W.state site.new) (W.said site.old) (W.said site.new)) }
-    // At any moment since the call began, whatever a crash leaves: the files stand for the history of a moment of the run and
-    // the text is that moment's; or the reply to the next is being said, and the files stand for the history behind it.
-    ensures during { S.tells → W.tells → IsNew (W.state site.old) → During W.moment W.left_since site.old site.new
-        (IsLeftByRun true (pieces_of (S.left source.old)) (W.said site.old) (begins no_history)) }
-    // On a store with tables, which cannot be read yet, it has refused each piece and changed no file.
-    ensures unread { S.tells → W.tells → 1 < length (W.state site.old (record { table = 0; part = 0 })).bytes
-        → IfEnded result (EndsUnread (S.left source.old) (W.state site.old) (W.state site.new) (W.said site.old) (W.said site.new)) }
+    // It has said the replies of all pieces, and the files stand for the history behind its events.
+    ensures ended { S.tells → W.tells → (history : History) → Settles (W.state site.old) history
+        → IfEnded result (EndsAt (pieces_of (S.left source.old)) history (W.state site.new) (W.said site.old) (W.said site.new)) }
+    // At any moment since the call began, whatever a crash leaves: the files stand for the history behind some of the run's
+    // events, and the text is the one behind them, or goes on by a front of what the next event says.
+    ensures during { S.tells → W.tells → (history : History) → Settles (W.state site.old) history → During W.moment W.left_since site.old site.new
+        (IsLeftBy (run_events (pieces_of (S.left source.old)) (begins history)) (W.said site.old) (begins history)) }
+    // Damage is told only where a file is damaged, by the last line that was said, and never where the files stand for a history.
+    ensures damaged { W.tells → result ≡ Status.Damaged
+        → SaysDamage (λ f. (W.state site.old f).bytes) (λ f. (W.state site.new f).bytes) (W.said site.new) }
+    ensures undamaged { W.tells → (history : History) → Settles (W.state site.old) history → result ≢ Status.Damaged }
+    // Without a fault it is always told of a log that is damaged as the store is opened, and of a part that the first statement meets.
+    ensures meets { words.now ≡ run_words → S.tells → W.tells → length (S.left source.old) ≤ 2 ^ 26
+        → ¬ HasRisen (S.faults source.old) (S.faults source.new) → ¬ HasRisen (W.disk_faults site.old) (W.disk_faults site.new)
+        → ¬ HasRisen (W.say_faults site.old) (W.say_faults site.new) → (line : List ℕ)
+        → IsOpeningDamaged (λ f. (W.state site.old f).bytes) line ⊎ MeetsDamage (λ f. (W.state site.old f).bytes) (pieces_of (S.left source.old)) line
+        → AnswersDamage result (W.said site.old) (W.said site.new) line }
 {
     match read_words(words) {
         Ok(Some(Command::Run)) => run(alloc, source, site),
@@ -63,14 +71,20 @@ fn run<S: Source, W: Site>(alloc: Global, source: &mut S, site: &mut W) -> Statu
     ensures cause { HasCause result (S.faults source.old) (S.faults source.new) (W.disk_faults site.old) (W.disk_faults site.new) (W.say_faults site.old) (W.say_faults site.new) }
     ensures complete { S.tells → length (S.left source.old) ≤ 2 ^ 26
         → ¬ HasRisen (S.faults source.old) (S.faults source.new) → ¬ HasRisen (W.disk_faults site.old) (W.disk_faults site.new)
-        → ¬ HasRisen (W.say_faults site.old) (W.say_faults site.new) → EndsUnlessNoMemory result }
+        → ¬ HasRisen (W.say_faults site.old) (W.say_faults site.new) → EndsWithoutFault result }
     ensures whole { S.tells → IfEnded result (λ refused. S.left source.new ≡ []) }
-    ensures new { S.tells → W.tells → IsNew (W.state site.old)
-        → IfEnded result (EndsNew (S.left source.old) (W.state site.new) (W.said site.old) (W.said site.new)) }
-    ensures during { S.tells → W.tells → IsNew (W.state site.old) → During W.moment W.left_since site.old site.new
-        (IsLeftByRun true (pieces_of (S.left source.old)) (W.said site.old) (begins no_history)) }
-    ensures unread { S.tells → W.tells → 1 < length (W.state site.old (record { table = 0; part = 0 })).bytes
-        → IfEnded result (EndsUnread (S.left source.old) (W.state site.old) (W.state site.new) (W.said site.old) (W.said site.new)) }
+    ensures ended { S.tells → W.tells → (history : History) → Settles (W.state site.old) history
+        → IfEnded result (EndsAt (pieces_of (S.left source.old)) history (W.state site.new) (W.said site.old) (W.said site.new)) }
+    ensures during { S.tells → W.tells → (history : History) → Settles (W.state site.old) history → During W.moment W.left_since site.old site.new
+        (IsLeftBy (run_events (pieces_of (S.left source.old)) (begins history)) (W.said site.old) (begins history)) }
+    ensures damaged { W.tells → result ≡ Status.Damaged
+        → SaysDamage (λ f. (W.state site.old f).bytes) (λ f. (W.state site.new f).bytes) (W.said site.new) }
+    ensures undamaged { W.tells → (history : History) → Settles (W.state site.old) history → result ≢ Status.Damaged }
+    ensures meets { S.tells → W.tells → length (S.left source.old) ≤ 2 ^ 26
+        → ¬ HasRisen (S.faults source.old) (S.faults source.new) → ¬ HasRisen (W.disk_faults site.old) (W.disk_faults site.new)
+        → ¬ HasRisen (W.say_faults site.old) (W.say_faults site.new) → (line : List ℕ)
+        → IsOpeningDamaged (λ f. (W.state site.old f).bytes) line ⊎ MeetsDamage (λ f. (W.state site.old f).bytes) (pieces_of (S.left source.old)) line
+        → AnswersDamage result (W.said site.old) (W.said site.new) line }
 {
     match pull_script(alloc, source) {
         Ok(script) => match run_script(alloc, site, &script) {
@@ -78,6 +92,7 @@ fn run<S: Source, W: Site>(alloc: Global, source: &mut S, site: &mut W) -> Statu
             Ok(true) => Status::SomeRefused,
             Err(RunFault::Disk) => Status::DiskFault,
             Err(RunFault::Say) => Status::SayFault,
+            Err(RunFault::Damaged) => Status::Damaged,
             Err(RunFault::NoMemory) => Status::NoMemory,
         },
         Err(PullFault::Failed) => Status::SourceFault,

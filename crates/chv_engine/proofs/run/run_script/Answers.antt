@@ -1,104 +1,122 @@
--- A run on a new store begins at the empty history, and one on a store with tables refuses each statement.
-use Rattle.std.proofs.Common.{◌≡◌, ℕ, List, Bool, true, false, ◌||◌, refl, sym, ap, subst, ◌∙◌}
+-- The store is opened, and each piece is answered.
+use Rattle.std.proofs.Common.{◌≡◌, ◌++◌, inl, inr, ℕ, List, Bool, sym, ap, subst, ◌∙◌}
 use Rattle.std.proofs.lemmas.List.{append-nil}
-use Rattle.chv_site.specs.Files.{FileState, KeepsFiles}
-use Rattle.chv_site.specs.During.{During}
+use Rattle.chv_site.specs.declared.file_id.FileId.{FileId}
+use Rattle.chv_site.specs.Files.{FileState}
 use Rattle.chv_site.proofs.Moments.{weakened, goes_on}
-use Rattle.chv_engine.specs.Crashes.{IsLeftByRun, StillNew}
-use Rattle.chv_engine.proofs.RunLemmas.{new_left}
-use Rattle.chv_engine.specs.Histories.{no_history}
-use Rattle.chv_engine.specs.Runs.{Moment, begins, run}
+use Rattle.chv_engine.specs.Crashes.{StandsWith, IsLeftBy}
+use Rattle.chv_engine.specs.Damage.{Files, IsOpeningDamaged}
+use Rattle.chv_engine.specs.DamageLines.{damage_line}
+use Rattle.chv_engine.specs.Histories.{History}
+use Rattle.chv_engine.specs.Meets.{TellsOrFails}
+use Rattle.chv_engine.specs.Openings.{IsDamageOf, IsOpeningDamage}
+use Rattle.chv_engine.specs.Runs.{Moment, begins, behind, run_events}
 use Rattle.chv_engine.specs.Script.{pieces_of}
-use Rattle.chv_engine.specs.Stores.{HasRoom, IsAt, EndsNew, EndsUnread}
+use Rattle.chv_engine.specs.Stores.{IsWithin, Holds, IsAt, AnswersAs, EndsAt}
+use Rattle.chv_engine.specs.declared.opening.OpenFault.{OpenFault}
+use Rattle.chv_engine.specs.declared.store.Store.{Store}
+use Rattle.chv_engine.proofs.LeftLemmas.{left_still}
+use Rattle.chv_engine.proofs.MeetsLemmas.{fails_or_tells}
+use Rattle.chv_engine.proofs.OpeningLemmas.{damage_told, opening_line_unique, meets_undamaged, opened_undamaged, settled_undamaged, meets_part}
 use Rattle.chv_engine.proofs.ResultLemmas.{if_ok_with}
 use Rattle.chv_engine.proofs.StoreLemmas.{stands_for}
 use Rattle.chv_engine.proofs.run.run_script.Goals as goal
 
-pub returns-clause-new : goal.returns-clause-new
-returns-clause-new g c = λ tells new.
-    let script = c.args.script.now in
-    let store = c.in_ok-store.store in
-    let last = c.answer_all.new.self in
-    let opened = g.W.Site.state c.open_store.new.site in
-    let files = g.W.Site.state c.answer_all.new.site in
-    let before = g.W.Site.said c.args.site.now in
-    let text = g.W.Site.said c.answer_all.new.site in
-    let opening = c.in_ok-store.ensures.new tells new in
-    let start : IsAt store opened (g.W.Site.said c.open_store.new.site) before false (begins no_history) = record {
-      holds = λ readable. opening.1;
-      text = c.in_ok-store.ensures.said tells ∙ sym (append-nil before);
-      mark = refl;
-    } in
-    let end = run true (pieces_of script) (begins no_history) in
-    let is_end : run store.readable (pieces_of script) (begins no_history) ≡ end = ap (λ (b : Bool). run b (pieces_of script) (begins no_history)) opening.0 in
-    if_ok_with c.answer_all.result (HasRoom 0 last)
-    (λ (refused : Bool). (before : List ℕ) (mark : Bool) (m : Moment) → IsAt store opened (g.W.Site.said c.open_store.new.site) before mark m → IsAt last files text before (mark || refused) (run store.readable (pieces_of script) m))
-    (EndsNew script files before text)
-    (λ refused room does.
-    let at : IsAt last files text before refused end = subst (λ (m : Moment). IsAt last files text before refused m) is_end (does before false (begins no_history) start) in
-    record {
-      text = at.text;
-      stands = stands_for last files end.history room (at.holds (c.answer_all.ensures.readable ∙ opening.0)) (λ f. g.met.W.Site.reads c.answer_all.new.site f);
-      mark = at.mark;
-    })
-    c.answer_all.ensures.room (c.answer_all.ensures.answered tells)
+-- an opened store is at the first moment
+begins_at : (store : Store) (files : FileId → FileState) (history : History) (said now : List ℕ) → Holds store files history → now ≡ said → IsAt store files now said (begins history)
+begins_at store files history said now holds same = record { holds = holds; text = same ∙ sym (append-nil said) }
 
-pub returns-clause-unread : goal.returns-clause-unread
-returns-clause-unread g c = λ tells old_store.
-    let script = c.args.script.now in
-    let store = c.in_ok-store.store in
-    let last = c.answer_all.new.self in
-    let first = g.W.Site.state c.args.site.now in
-    let opened = g.W.Site.state c.open_store.new.site in
-    let files = g.W.Site.state c.answer_all.new.site in
-    let before = g.W.Site.said c.args.site.now in
-    let text = g.W.Site.said c.answer_all.new.site in
-    let unread : store.readable ≡ false = c.in_ok-store.ensures.unread tells old_store in
-    let start : IsAt store opened (g.W.Site.said c.open_store.new.site) before false (begins no_history) = record {
-      holds = λ readable. absurd (cc (readable, unread));
-      text = c.in_ok-store.ensures.said tells ∙ sym (append-nil before);
-      mark = refl;
-    } in
-    let end = run false (pieces_of script) (begins no_history) in
-    let is_end : run store.readable (pieces_of script) (begins no_history) ≡ end = ap (λ (b : Bool). run b (pieces_of script) (begins no_history)) unread in
-    if_ok_with c.answer_all.result (KeepsFiles opened files)
-    (λ (refused : Bool). (before : List ℕ) (mark : Bool) (m : Moment) → IsAt store opened (g.W.Site.said c.open_store.new.site) before mark m → IsAt last files text before (mark || refused) (run store.readable (pieces_of script) m))
-    (EndsUnread script first files before text)
-    (λ refused kept does.
-    let at : IsAt last files text before refused end = subst (λ (m : Moment). IsAt last files text before refused m) is_end (does before false (begins no_history) start) in
-    record {
-      text = at.text;
-      kept = λ f. ap (λ (s : FileState). s.bytes) (kept f) ∙ c.in_ok-store.ensures.kept tells old_store f;
-      mark = at.mark;
-    })
-    (c.answer_all.ensures.unread tells unread) (c.answer_all.ensures.answered tells)
-
--- what opening leaves, and then what the pieces leave
-pub returns-in_err-store-clause-during : goal.returns-in_err-store-clause-during
-returns-in_err-store-clause-during g c = λ tells new.
+pub returns-in-Ok-clause-ended : goal.returns-in-Ok-clause-ended
+returns-in-Ok-clause-ended g c = λ tells history settles.
     let S = g.W.Site in
     let site = c.args.site.now in
+    let mid = c.open_store.new.site in
+    let now = c.answer_all.new.site in
     let pieces = pieces_of c.args.script.now in
-    weakened S.moment S.left_since site c.open_store.new.site (StillNew (S.said site)) (IsLeftByRun true pieces (S.said site) (begins no_history)) (c.in_err-store.ensures.during tells new)
-    (λ image text left. new_left true pieces (S.said site) image text left)
+    let start = begins_at c.in-Ok.store (S.state mid) history (S.said site) (S.said mid) (c.in-Ok.ensures.holds tells history settles) (c.in-Ok.ensures.said tells) in
+    let Answers : Bool → Type 0 = λ refused. (before : List ℕ) (m : Moment) → IsAt c.in-Ok.store (S.state mid) (S.said mid) before m
+    → AnswersAs c.answer_all.new.self (S.state now) (S.said now) before refused (run_events pieces m) m in
+    if_ok_with c.answer_all.result (IsWithin c.answer_all.new.self) Answers (EndsAt pieces history (S.state now) (S.said site) (S.said now))
+    (λ refused within answers.
+    let end = answers (S.said site) (begins history) start in
+    record {
+      text = end.at.text;
+      stands = stands_for c.answer_all.new.self (S.state now) (behind (run_events pieces (begins history)) (begins history)).history within end.at.holds (g.met.W.Site.reads now);
+      mark = end.mark;
+    })
+    c.answer_all.ensures.within (c.answer_all.ensures.answered tells)
 
-pub returns-clause-during : goal.returns-clause-during
-returns-clause-during g c = λ tells new.
+pub returns-in-Ok-clause-during : goal.returns-in-Ok-clause-during
+returns-in-Ok-clause-during g c = λ tells history settles.
     let S = g.W.Site in
     let site = c.args.site.now in
-    let before = S.said site in
-    let store = c.in_ok-store.store in
-    let pieces = pieces_of c.args.script.now in
-    let opening = c.in_ok-store.ensures.new tells new in
-    let start : IsAt store (S.state c.open_store.new.site) (S.said c.open_store.new.site) before false (begins no_history) = record {
-      holds = λ readable. opening.1;
-      text = c.in_ok-store.ensures.said tells ∙ sym (append-nil before);
-      mark = refl;
-    } in
-    let first = weakened S.moment S.left_since site c.open_store.new.site (StillNew before) (IsLeftByRun true pieces before (begins no_history)) (c.in_ok-store.ensures.during tells new)
-    (λ image text left. new_left true pieces before image text left) in
-    let second : During S.moment S.left_since c.open_store.new.site c.answer_all.new.site (IsLeftByRun true pieces before (begins no_history)) =
-    subst (λ (b : Bool). During S.moment S.left_since c.open_store.new.site c.answer_all.new.site (IsLeftByRun b pieces before (begins no_history))) opening.0
-    (c.answer_all.ensures.during tells before false (begins no_history) opening.0 start) in
-    goes_on S.moment S.left_since site c.open_store.new.site c.answer_all.new.site (IsLeftByRun true pieces before (begins no_history)) (IsLeftByRun true pieces before (begins no_history)) first second
+    let mid = c.open_store.new.site in
+    let now = c.answer_all.new.site in
+    let events = run_events (pieces_of c.args.script.now) (begins history) in
+    let P = IsLeftBy events (S.said site) (begins history) in
+    let start = begins_at c.in-Ok.store (S.state mid) history (S.said site) (S.said mid) (c.in-Ok.ensures.holds tells history settles) (c.in-Ok.ensures.said tells) in
+    goes_on S.moment S.left_since site mid now P P
+    (weakened S.moment S.left_since site mid (StandsWith history (S.said site)) P (c.in-Ok.ensures.during tells history settles)
+    (λ image text left. left_still events (S.said site) (begins history) image text left.stands (left.text_left ∙ sym (append-nil (S.said site)))))
+    (c.answer_all.ensures.during tells (S.said site) (begins history) start)
     (λ image text left. left)
+
+pub returns-in-Ok-clause-undamaged : goal.returns-in-Ok-clause-undamaged
+returns-in-Ok-clause-undamaged g c = λ tells history settles.
+    let S = g.W.Site in
+    let site = c.args.site.now in
+    let mid = c.open_store.new.site in
+    let start = begins_at c.in-Ok.store (S.state mid) history (S.said site) (S.said mid) (c.in-Ok.ensures.holds tells history settles) (c.in-Ok.ensures.said tells) in
+    c.answer_all.ensures.undamaged tells (S.said site) (begins history) start
+
+pub returns-in-Ok-clause-meets : goal.returns-in-Ok-clause-meets
+returns-in-Ok-clause-meets g c = λ tells line damaged.
+    let S = g.W.Site in
+    let site = c.args.site.now in
+    let mid = c.open_store.new.site in
+    let now = c.answer_all.new.site in
+    let old : Files = λ f. (S.state site f).bytes in
+    let new : Files = λ f. (S.state mid f).bytes in
+    elim damaged as (λ _. TellsOrFails c.answer_all.result (S.said site) (S.said now) line) [
+      | inl opening ↦ absurd (opened_undamaged c.in-Ok.store old new line (c.in-Ok.ensures.opened tells) opening)
+      | inr meets ↦
+          subst (λ (said : List ℕ). TellsOrFails c.answer_all.result said (S.said now) line) (c.in-Ok.ensures.said tells)
+          (c.answer_all.ensures.meets tells meets.def.name line meets.first (meets_part c.in-Ok.store old new (pieces_of c.args.script.now) line (c.in-Ok.ensures.opened tells) meets))
+    ]
+
+-- a log is damaged
+pub returns-in-Err-Damaged-clause-during : goal.returns-in-Err-Damaged-clause-during
+returns-in-Err-Damaged-clause-during g c = λ tells history settles.
+    let files = g.W.Site.state c.args.site.now in
+    let is : IsDamageOf (λ f. (files f).bytes) c.in-Err-Damaged.damage c.in-Err-Damaged.name.items =
+    subst (λ (fault : OpenFault). IsOpeningDamage (λ f. (files f).bytes) fault) c.in-Err-Damaged.field-0-is (c.in-Err-Damaged.ensures.damaged tells) in
+    absurd (settled_undamaged files history c.in-Err-Damaged.damage c.in-Err-Damaged.name.items settles is)
+
+pub returns-in-Err-Damaged-clause-undamaged : goal.returns-in-Err-Damaged-clause-undamaged
+returns-in-Err-Damaged-clause-undamaged g c = λ tells history settles told.
+    let files = g.W.Site.state c.args.site.now in
+    let is : IsDamageOf (λ f. (files f).bytes) c.in-Err-Damaged.damage c.in-Err-Damaged.name.items =
+    subst (λ (fault : OpenFault). IsOpeningDamage (λ f. (files f).bytes) fault) c.in-Err-Damaged.field-0-is (c.in-Err-Damaged.ensures.damaged tells) in
+    settled_undamaged files history c.in-Err-Damaged.damage c.in-Err-Damaged.name.items settles is
+
+pub returns-in-Err-Damaged-clause-meets : goal.returns-in-Err-Damaged-clause-meets
+returns-in-Err-Damaged-clause-meets g c = λ tells line damaged.
+    let S = g.W.Site in
+    let site = c.args.site.now in
+    let mid = c.open_store.new.site in
+    let now = c.tell_damage.new.site in
+    let files : Files = λ f. (S.state site f).bytes in
+    let damage = c.in-Err-Damaged.damage in
+    let name = c.in-Err-Damaged.name.items in
+    let is : IsDamageOf files damage name =
+    subst (λ (fault : OpenFault). IsOpeningDamage files fault) c.in-Err-Damaged.field-0-is (c.in-Err-Damaged.ensures.damaged tells) in
+    let told : IsOpeningDamaged files (damage_line damage name) = damage_told files damage name is in
+    elim damaged as (λ _. TellsOrFails c.tell_damage.result (S.said site) (S.said now) line) [
+      | inl opening ↦ fails_or_tells c.tell_damage.result (S.said site) (S.said now) line c.tell_damage.ensures.ended
+          (λ fails.
+          c.tell_damage.ensures.told tells fails
+          ∙ ap (λ (said : List ℕ). said ++ damage_line damage c.deref.result.now) (c.in-Err-Damaged.ensures.said tells)
+          ∙ ap (λ (n : List ℕ). S.said site ++ damage_line damage n) c.deref.ensures.value
+          ∙ ap (λ (l : List ℕ). S.said site ++ l) (opening_line_unique files (damage_line damage name) line told opening))
+      | inr meets ↦ absurd (meets_undamaged files (pieces_of c.args.script.now) line (damage_line damage name) meets told)
+    ]

@@ -1,25 +1,23 @@
 -- No call of the site was made.
-use Rattle.std.proofs.Common.{true}
 use Rattle.chv_site.proofs.Moments.{started}
-use Rattle.chv_engine.specs.Crashes.{IsLeftByRun}
-use Rattle.chv_engine.specs.Histories.{no_history}
-use Rattle.chv_engine.specs.Runs.{begins}
+use Rattle.chv_engine.specs.Crashes.{IsLeftBy}
+use Rattle.chv_engine.specs.Runs.{begins, run_events}
 use Rattle.chv_engine.specs.Script.{pieces_of}
-use Rattle.chv_engine.proofs.RunLemmas.{untouched_left}
+use Rattle.chv_engine.proofs.StandingLemmas.{untouched_left}
 use Rattle.chv_engine.proofs.top.chviews.Goals as goal
 
 pub returns-in-Ok-None-clause-during : goal.returns-in-Ok-None-clause-during
-returns-in-Ok-None-clause-during g c = λ tells told new.
+returns-in-Ok-None-clause-during g c = λ tells told history settles.
     let S = g.W.Site in
     let site = c.args.site.now in
-    let pieces = pieces_of (g.S.Source.left c.args.source.now) in
-    started S.moment S.left_since site (IsLeftByRun true pieces (S.said site) (begins no_history))
-    (λ image text left. untouched_left (S.state site) (S.said site) new true pieces image text (g.met.W.Site.only_now site image text left))
+    let events = run_events (pieces_of (g.S.Source.left c.args.source.now)) (begins history) in
+    started S.moment S.left_since site (IsLeftBy events (S.said site) (begins history))
+    (λ image text left. untouched_left history (S.state site) (S.said site) events image text settles (g.met.W.Site.only_now site image text left))
 
 pub returns-in-Err-clause-during : goal.returns-in-Err-clause-during
-returns-in-Err-clause-during g c = λ tells told new.
+returns-in-Err-clause-during g c = λ tells told history settles.
     let S = g.W.Site in
     let site = c.args.site.now in
-    let pieces = pieces_of (g.S.Source.left c.args.source.now) in
-    started S.moment S.left_since site (IsLeftByRun true pieces (S.said site) (begins no_history))
-    (λ image text left. untouched_left (S.state site) (S.said site) new true pieces image text (g.met.W.Site.only_now site image text left))
+    let events = run_events (pieces_of (g.S.Source.left c.args.source.now)) (begins history) in
+    started S.moment S.left_since site (IsLeftBy events (S.said site) (begins history))
+    (λ image text left. untouched_left history (S.state site) (S.said site) events image text settles (g.met.W.Site.only_now site image text left))

@@ -1,0 +1,9 @@
+//! What statements are, and why they are refused.
+#![tactic(auto)]
+
+mod refusal;
+
+pub use refusal::Refusal;
+
+#[cfg(test)]
+mod tests;

@@ -1,4 +1,0 @@
-use Rattle.chv_engine.proofs.part_read.read_part.Goals as goal
-
-pub returns-clause-differ : goal.returns-clause-differ
-returns-clause-differ g c = λ kept found is. (c.part_values.ensures.hash kept found is).differ

@@ -1,0 +1,8 @@
+pub mod BookLemmas
+pub mod CommitLemmas
+pub mod DeliveryLemmas
+pub mod LogDamageLemmas
+pub mod OpeningLemmas
+pub mod RowsLemmas
+pub mod SortingLemmas
+pub mod TableLemmas

@@ -1,0 +1,6 @@
+pub mod Books
+pub mod Commits
+pub mod Damage
+pub mod Opening
+pub mod Sorting
+pub mod Tables
