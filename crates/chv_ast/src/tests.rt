@@ -1,4 +1,4 @@
-use crate::Refusal;
+use crate::{Name, Refusal, Seq};
 use std::test::Fail;
 
 // The numbers and names that clients are told, as docs/SQL.md has them.
@@ -26,4 +26,19 @@ fn each_refusal_has_its_number_and_name(rt: HostRuntime) {
         assert_eq!(rt; refusal.code(), code);
         assert_eq!(rt; refusal.name(), name);
     }
+}
+
+// A list grows at its end, and its copy has the same items.
+#[test]
+fn a_list_keeps_its_items_in_order(rt: HostRuntime) -> Result<(), Fail> {
+    let mut name: Name = Seq::new(rt.alloc());
+    for byte in [b'k', b'e', b'y'] {
+        name.push(byte)?;
+    }
+    assert_eq!(rt; name.len(), 3);
+    let copied = name.copy()?;
+    assert_eq!(rt; copied.as_slice(), b"key".as_slice());
+    let same = Seq::of_items(copied.into_items());
+    assert_eq!(rt; same.as_slice(), name.as_slice());
+    Ok(())
 }
