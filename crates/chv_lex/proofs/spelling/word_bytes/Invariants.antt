@@ -1,0 +1,10 @@
+use Rattle.std.proofs.Common.{◌≡◌, ◌+◌, ◌-◌, ◌≤◌, length, drop}
+use Rattle.std.specs.List.{prefix_len}
+use Rattle.chv_ast.specs.Words.{is_word_byte}
+use Rattle.chv_lex.proofs.spelling.word_bytes.Given as goal
+
+abbrev pub invariant-loop-at : goal.invariant-loop-at
+invariant-loop-at l = (l.at + prefix_len is_word_byte (drop l.at l.text) ≡ prefix_len is_word_byte l.text) × (l.at ≤ length l.text)
+
+abbrev pub decreases-loop-at : goal.decreases-loop-at
+decreases-loop-at l = length l.text - l.at

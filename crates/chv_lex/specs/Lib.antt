@@ -1,0 +1,9 @@
+pub mod Blanks
+pub mod Bytes
+pub mod Lexemes
+pub mod Reading
+pub mod Scripts
+pub mod Spellings
+pub mod Texts
+pub mod Tokens
+pub mod Writes
