@@ -1,0 +1,16 @@
+pub mod CreateLemmas
+pub mod ExactLemmas
+pub mod ExprComplete
+pub mod ExprLemmas
+pub mod ExprSound
+pub mod ExprSteps
+pub mod ExprTokens
+pub mod ExprTurns
+pub mod InsertLemmas
+pub mod ListedLemmas
+pub mod PartLemmas
+pub mod SelectLemmas
+pub mod SettingsLemmas
+pub mod StatementLemmas
+pub mod TokenTextLemmas
+pub mod TextLaws

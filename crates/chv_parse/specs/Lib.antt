@@ -1,0 +1,4 @@
+pub mod ExprReading
+pub mod Reading
+pub mod StatementReading
+pub mod StatementTexts
