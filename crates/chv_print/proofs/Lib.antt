@@ -1,0 +1,11 @@
+pub mod CreateBack
+pub mod ExprBack
+pub mod ExprLaws
+pub mod InsertBack
+pub mod Lexed
+pub mod Parts
+pub mod Prints
+pub mod SelectBack
+pub mod SettingLaws
+pub mod StatementBack
+pub mod Tokens

@@ -1,0 +1,3 @@
+pub mod ExprTexts
+pub mod StatementTexts
+pub mod Texts

@@ -1,0 +1,16 @@
+//! Prints statements as their canonical text.
+#![tactic(auto)]
+
+mod create;
+mod expr;
+mod insert;
+mod list;
+mod name;
+mod select;
+mod statement;
+
+pub use expr::expr_text;
+pub use statement::statement_text;
+
+#[cfg(test)]
+mod tests;
