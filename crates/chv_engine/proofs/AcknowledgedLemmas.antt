@@ -2,7 +2,7 @@
 use Rattle.std.proofs.Common.{◌≡◌, ◌⊎◌, inl, inr, ℕ, suc, ◌+◌, ◌≤◌, List, [], ◌∷◌, ◌++◌, length, take, Bool, true, false, Option, None, Some, IfSome, All, Contains, refl, sym, ap, subst, ◌∙◌, arith, append_assoc, if◌then◌else◌, ◌==◌, eqb-true, eq-eqb, bytes_eq, option_map, nat_lt}
 use Rattle.std.proofs.lemmas.List.{append-nil, length-append, length-take}
 use Rattle.std.proofs.lemmas.List.Elements.{All-nil, All-cons, All-append, All-push, All-weaker, Contains-append_left, Contains-push}
-use Rattle.chv_ast.specs.declared.refusal.Refusal.TheVariants.{UnknownTable, NameTaken, LimitPassed, NotBuilt}
+use Rattle.chv_ast.specs.declared.refusal.Refusal.TheVariants.{Syntax, UnknownTable, NameTaken, BadLiteral, LimitPassed, NotBuilt}
 use Rattle.chv_site.specs.Files.{IsFrontOf}
 use Rattle.chv_table.specs.Books.{Book, Entry, no_book, arrived, entry_of}
 use Rattle.chv_table.specs.Commits.{MAX_ENTRIES}
@@ -10,9 +10,9 @@ use Rattle.chv_text.specs.Replies.{ok_line, refused_line}
 use Rattle.chv_engine.specs.Acknowledged.{IsAcknowledged, IsDelivered, IsHeld}
 use Rattle.chv_engine.specs.Crashes.{text_of, says_next}
 use Rattle.chv_engine.specs.Histories.{TableDef, History, with_table}
-use Rattle.chv_engine.specs.Runs.{Event, Created, Committed, Replied, Delivery, Plan, Moment, delivered, happen, behind, table_named, refusal, create_new, insert_into, insert_known, shown_text, select_known, statement_events, piece_events, run_events}
-use Rattle.chv_engine.specs.Script.{is_blank}
-use Rattle.chv_engine.specs.Statements.{Statement, CreateTable, Insert, SelectAll, statement_of}
+use Rattle.chv_engine.specs.Runs.{Event, Created, Committed, Replied, Delivery, Plan, Moment, delivered, happen, behind, table_named, refusal, create_new, insert_into, insert_known, shown_text, select_known, form_events, statement_events, request_events, run_events}
+use Rattle.chv_engine.specs.Script.{Request}
+use Rattle.chv_engine.specs.Forms.{Form, CreateTable, Insert, SelectAll, Unbuilt}
 
 -- lists with equal firsts and rests
 first_same : (x y : Event) (xs ys : List Event) → x ∷ xs ≡ y ∷ ys → x ≡ y
@@ -155,33 +155,34 @@ kept old new plans keeps held = All-weaker (IsHeld old) (IsHeld new) (λ plan. A
 holding_reply : (text : List ℕ) (refuses : Bool) (m : Moment) → Holding m → HoldingWhile (Replied text [] refuses ∷ []) m
 holding_reply text refuses m held = (held, All-append (IsHeld m.history) m.acknowledged [] held (All-nil (IsHeld m.history)))
 
-holding_create : (taken : Option ℕ) (schema : List TableDef) (def : TableDef) (m : Moment) → Holding m → HoldingWhile (create_new taken schema def) m
-holding_create (Some table) schema def m held = holding_reply (refused_line 0 NameTaken) true m held
-holding_create None [] def m held =
-    (held, holding_reply (ok_line 0) false (happen (Created def) m) (kept m.history (with_table def m.history) m.acknowledged (delivered_created def m.history) held))
-holding_create None (other ∷ others) def m held = holding_reply (refused_line 0 NotBuilt) true m held
+holding_create : (client : ℕ) (taken : Option ℕ) (schema : List TableDef) (def : TableDef) (m : Moment) → Holding m → HoldingWhile (create_new client taken schema def) m
+holding_create client (Some table) schema def m held = holding_reply (refused_line client NameTaken) true m held
+holding_create client None [] def m held =
+    (held, holding_reply (ok_line client) false (happen (Created def) m) (kept m.history (with_table def m.history) m.acknowledged (delivered_created def m.history) held))
+holding_create client None (other ∷ others) def m held = holding_reply (refused_line client NotBuilt) true m held
 
 -- an insert is acknowledged behind its commit
-holding_insert_into : (d : Delivery) (m : Moment) → 1 ≤ d.table → d.table ≤ length m.history.schema → Holding m → HoldingWhile (insert_into d) m
-holding_insert_into d m counted stands held =
+holding_insert_into : (client : ℕ) (d : Delivery) (m : Moment) → 1 ≤ d.table → d.table ≤ length m.history.schema → Holding m → HoldingWhile (insert_into client d) m
+holding_insert_into client d m counted stands held =
     let new = delivered d m.history in
     let all : All (IsHeld new) m.acknowledged = kept m.history new m.acknowledged (delivered_committed d m.history) held in
     let one : IsHeld new (d ∷ []) = All-cons (IsDelivered new) d [] (delivered_new d m.history counted stands) (All-nil (IsDelivered new)) in
     (held, (all, All-push (IsHeld new) m.acknowledged (d ∷ []) all one))
 
-holding_insert_room : (room : Bool) (d : Delivery) (m : Moment) → 1 ≤ d.table → d.table ≤ length m.history.schema → Holding m
-    → HoldingWhile (if room then insert_into d else refusal LimitPassed) m
-holding_insert_room true d m counted stands held = holding_insert_into d m counted stands held
-holding_insert_room false d m counted stands held = holding_reply (refused_line 0 LimitPassed) true m held
+holding_insert_room : (client : ℕ) (room : Bool) (d : Delivery) (m : Moment) → 1 ≤ d.table → d.table ≤ length m.history.schema → Holding m
+    → HoldingWhile (if room then insert_into client d else refusal client LimitPassed) m
+holding_insert_room client true d m counted stands held = holding_insert_into client d m counted stands held
+holding_insert_room client false d m counted stands held = holding_reply (refused_line client LimitPassed) true m held
 
-holding_insert : (table : Option ℕ) (value : ℕ) (m : Moment) → IfSome table (λ n. (1 ≤ n) × (n ≤ length m.history.schema)) → Holding m → HoldingWhile (insert_known table value m.history) m
-holding_insert None value m known held = holding_reply (refused_line 0 UnknownTable) true m held
-holding_insert (Some table) value m known held =
-    holding_insert_room (nat_lt (length (m.history.books table).entries) MAX_ENTRIES) (record { table = table; entry = entry_of value }) m known.0 known.1 held
+holding_insert : (client : ℕ) (table : Option ℕ) (value : Option ℕ) (m : Moment) → IfSome table (λ n. (1 ≤ n) × (n ≤ length m.history.schema)) → Holding m → HoldingWhile (insert_known client table value m.history) m
+holding_insert client None value m known held = holding_reply (refused_line client UnknownTable) true m held
+holding_insert client (Some table) None m known held = holding_reply (refused_line client BadLiteral) true m held
+holding_insert client (Some table) (Some value) m known held =
+    holding_insert_room client (nat_lt (length (m.history.books table).entries) MAX_ENTRIES) (record { table = table; entry = entry_of value }) m known.0 known.1 held
 
-holding_select : (table : Option ℕ) (m : Moment) → Holding m → HoldingWhile (select_known table m.history) m
-holding_select None m held = holding_reply (refused_line 0 UnknownTable) true m held
-holding_select (Some table) m held = holding_reply (shown_text (m.history.books table)) false m held
+holding_select : (client : ℕ) (table : Option ℕ) (m : Moment) → Holding m → HoldingWhile (select_known client table m.history) m
+holding_select client None m held = holding_reply (refused_line client UnknownTable) true m held
+holding_select client (Some table) m held = holding_reply (shown_text client (m.history.books table)) false m held
 
 -- a table that is named is one of the schema
 one_more : (table : Option ℕ) (most : ℕ) → IfSome table (λ n. (1 ≤ n) × (n ≤ most)) → IfSome (option_map (λ n. n + 1) table) (λ n. (1 ≤ n) × (n ≤ suc most))
@@ -197,28 +198,28 @@ named_in : (name : List ℕ) (schema : List TableDef) → IfSome (table_named na
 named_in name [] = tt
 named_in name (def ∷ defs) = named_here (bytes_eq def.name name) (table_named name defs) (length defs) (named_in name defs)
 
-holding_statement : (statement : Option Statement) (m : Moment) → Holding m → HoldingWhile (statement_events statement m.history) m
-holding_statement None m held = holding_reply (refused_line 0 NotBuilt) true m held
-holding_statement (Some (CreateTable name column)) m held =
-    holding_create (table_named name m.history.schema) m.history.schema (record { name = name; column = column }) m held
-holding_statement (Some (Insert table value)) m held = holding_insert (table_named table m.history.schema) value m (named_in table m.history.schema) held
-holding_statement (Some (SelectAll table)) m held = holding_select (table_named table m.history.schema) m held
+holding_form : (client : ℕ) (form : Form) (m : Moment) → Holding m → HoldingWhile (form_events client form m.history) m
+holding_form client (CreateTable name column) m held =
+    holding_create client (table_named name m.history.schema) m.history.schema (record { name = name; column = column }) m held
+holding_form client (Insert table value) m held = holding_insert client (table_named table m.history.schema) value m (named_in table m.history.schema) held
+holding_form client (SelectAll table) m held = holding_select client (table_named table m.history.schema) m held
+holding_form client Unbuilt m held = holding_reply (refused_line client NotBuilt) true m held
 
-holding_piece : (blank : Bool) (statement : Option Statement) (m : Moment) → Holding m → HoldingWhile (if blank then [] else statement_events statement m.history) m
-holding_piece true statement m held = held
-holding_piece false statement m held = holding_statement statement m held
+holding_statement : (client : ℕ) (statement : Option Form) (m : Moment) → Holding m → HoldingWhile (statement_events client statement m.history) m
+holding_statement client None m held = holding_reply (refused_line client Syntax) true m held
+holding_statement client (Some form) m held = holding_form client form m held
 
--- while pieces are answered the history holds what is acknowledged
-pub holding_run : (pieces : List (List ℕ)) (m : Moment) → Holding m → HoldingWhile (run_events pieces m) m
+-- while requests are answered the history holds what is acknowledged
+pub holding_run : (requests : List Request) (m : Moment) → Holding m → HoldingWhile (run_events requests m) m
 holding_run [] m held = held
-holding_run (piece ∷ pieces) m held =
-    let events = piece_events piece m.history in
-    let here : HoldingWhile events m = holding_piece (is_blank piece) (statement_of piece) m held in
-    holding-append events (run_events pieces (behind events m)) m here (holding_run pieces (behind events m) (holding_last events m here))
+holding_run (request ∷ requests) m held =
+    let events = request_events request m.history in
+    let here : HoldingWhile events m = holding_statement request.client request.statement m held in
+    holding-append events (run_events requests (behind events m)) m here (holding_run requests (behind events m) (holding_last events m here))
 
 -- at the moment behind the events that are done
-pub holding_behind : (pieces : List (List ℕ)) (m : Moment) (done left : List Event) → Holding m → run_events pieces m ≡ done ++ left → Holding (behind done m)
-holding_behind pieces m done left held split = holding_at done left m (subst (λ (events : List Event). HoldingWhile events m) split (holding_run pieces m held))
+pub holding_behind : (requests : List Request) (m : Moment) (done left : List Event) → Holding m → run_events requests m ≡ done ++ left → Holding (behind done m)
+holding_behind requests m done left held split = holding_at done left m (subst (λ (events : List Event). HoldingWhile events m) split (holding_run requests m held))
 
 -- nothing is acknowledged yet
 pub holding_none : (m : Moment) → m.acknowledged ≡ [] → Holding m

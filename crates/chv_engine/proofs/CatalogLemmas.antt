@@ -1,5 +1,5 @@
 -- What is read of the catalog's log.
-use Rattle.std.proofs.Common.{◌≡◌, ◌≢◌, ℕ, ◌+◌, ◌≤◌, List, [], ◌∷◌, length, map, IsTrue, None, Some, Vec, Global, refl, sym, ap, subst, arith}
+use Rattle.std.proofs.Common.{◌≡◌, ◌≢◌, ℕ, ◌+◌, ◌≤◌, List, [], ◌∷◌, length, map, None, Some, Vec, Global, refl, sym, ap, subst, arith}
 use Rattle.std.specs.List.{All}
 use Rattle.std.proofs.lemmas.List.Elements.{All-nil, All-head, All-push}
 use Rattle.chv_site.specs.Files.{settled}
@@ -9,16 +9,14 @@ use Rattle.chv_gate.proofs.DamageLaws.{followed_unique, damage_of_begun, frames_
 use Rattle.chv_gate.proofs.ReadingLaws.{reads_none, reads_more, reads_end, reads_ready}
 use Rattle.chv_engine.specs.Histories.{TableDef, IsDef, IsSchema, AreTexts, catalog_payload}
 use Rattle.chv_engine.specs.Openings.{LacksTable, HoldsCatalog}
-use Rattle.chv_engine.specs.Statements.{is_name}
-use Rattle.chv_engine.specs.Texts.{create_text}
 use Rattle.chv_engine.specs.declared.opening.Catalog.{Catalog}
 
 -- a payload that creates no table
 pub no_table : (gate : ℕ) (file payload : List ℕ) (next : ℕ) → IsOpen gate file × IsFollowed gate payload next file
-    → ((name column : List ℕ) → IsTrue (is_name name) → IsTrue (is_name column) → payload ≢ create_text name column) → LacksTable gate file
+    → ((def : TableDef) → IsDef def → payload ≢ catalog_payload def) → LacksTable gate file
 no_table gate file payload next read none = record {
   opened = read.0;
-  none = λ def place lawful follows. none def.name def.column lawful.name lawful.column (followed_unique gate next place payload (catalog_payload def) file read.1 follows);
+  none = λ def place lawful follows. none def lawful (followed_unique gate next place payload (catalog_payload def) file read.1 follows);
 }
 
 -- no table, and one

@@ -70,52 +70,52 @@ module _ (store : Store) (named : NamedTable) (old : FileId → FileState) (hist
 abbrev row_of : ℕ → Delivery
 row_of value = record { table = 1; entry = entry_of value }
 
-abbrev events_by : Bool → ℕ → List Event
-events_by room value = if room then insert_into (row_of value) else refusal LimitPassed
+abbrev events_by : ℕ → Bool → ℕ → List Event
+events_by client room value = if room then insert_into client (row_of value) else refusal client LimitPassed
 
 abbrev grown_by : Bool → ℕ → Book → Book
 grown_by room value book = if room then arrived (entry_of value) book else book
 
-abbrev reply_by : Bool → List ℕ
-reply_by room = if room then insert_line 0 1 0 else refused_line 0 LimitPassed
+abbrev reply_by : ℕ → Bool → List ℕ
+reply_by client room = if room then insert_line client 1 0 else refused_line client LimitPassed
 
-module _ (store : Store) (named : NamedTable) (old : FileId → FileState) (m : Moment) (within : IsWithin store) (held : Holds store old m.history) (tables : HoldsTables (Some named) old m.history) where
+module _ (client : ℕ) (store : Store) (named : NamedTable) (old : FileId → FileState) (m : Moment) (within : IsWithin store) (held : Holds store old m.history) (tables : HoldsTables (Some named) old m.history) where
   left_by : (room : Bool) (value : ℕ) (said before : List ℕ) (image : Image) (text : List ℕ) → said ≡ before ++ m.said → ((f : FileId) → f.table ≢ 1 → IsFileImage (old f) (image f))
-      → (TableStands image 1 (m.history.books 1) × (text ≡ said)) ⊎ (TableStands image 1 (grown_by room value (m.history.books 1)) × IsFrontOf (reply_by room) said text)
-      → IsLeftBy (events_by room value) before m image text
+      → (TableStands image 1 (m.history.books 1) × (text ≡ said)) ⊎ (TableStands image 1 (grown_by room value (m.history.books 1)) × IsFrontOf (reply_by client room) said text)
+      → IsLeftBy (events_by client room value) before m image text
   left_by true value said before image text is others (inl first) =
-      left_still (insert_into (row_of value)) before m image text (same_table store named old m.history within held tables image others first.0) (first.1 ∙ is)
+      left_still (insert_into client (row_of value)) before m image text (same_table store named old m.history within held tables image others first.0) (first.1 ∙ is)
   left_by true value said before image text is others (inr second) =
       left_second (Committed (row_of value)) _ before m image text
       (one_table store named old m.history within held tables (arrived (entry_of value) (m.history.books 1)) image others second.0)
-      (subst (λ (s : List ℕ). IsFrontOf (insert_line 0 1 0) s text) is second.1)
+      (subst (λ (s : List ℕ). IsFrontOf (insert_line client 1 0) s text) is second.1)
   left_by false value said before image text is others (inl first) =
-      left_still (refusal LimitPassed) before m image text (same_table store named old m.history within held tables image others first.0) (first.1 ∙ is)
+      left_still (refusal client LimitPassed) before m image text (same_table store named old m.history within held tables image others first.0) (first.1 ∙ is)
   left_by false value said before image text is others (inr second) =
-      left_first (refusal LimitPassed) before m image text (same_table store named old m.history within held tables image others second.0)
-      (subst (λ (s : List ℕ). IsFrontOf (refused_line 0 LimitPassed) s text) is second.1)
+      left_first (refusal client LimitPassed) before m image text (same_table store named old m.history within held tables image others second.0)
+      (subst (λ (s : List ℕ). IsFrontOf (refused_line client LimitPassed) s text) is second.1)
 
   -- while a row is inserted
-  pub row_left : (value : ℕ) (said before : List ℕ) (image : Image) (text : List ℕ) → said ≡ before ++ m.said → RowLeft 1 value (m.history.books 1) old said image text → IsLeftBy (insert_known (Some 1) value m.history) before m image text
+  pub row_left : (value : ℕ) (said before : List ℕ) (image : Image) (text : List ℕ) → said ≡ before ++ m.said → RowLeft 1 client value (m.history.books 1) old said image text → IsLeftBy (insert_known client (Some 1) (Some value) m.history) before m image text
   row_left value said before image text is left = left_by (has_room (m.history.books 1)) value said before image text is left.others left.stands
 
   answers_by : (room : Bool) (value : ℕ) (new : NamedTable) (mid : FileId → FileState) (said now before : List ℕ) → said ≡ before ++ m.said → ((f : FileId) → f.table ≢ 1 → mid f ≡ old f) → new.name.items ≡ named.name.items
-      → HoldsBook new.table mid (grown_by room value (m.history.books 1)) → now ≡ said ++ reply_by room
-      → AnswersAs (record { catalog = store.catalog; table = Some new }) mid now before (not room) (events_by room value) m
+      → HoldsBook new.table mid (grown_by room value (m.history.books 1)) → now ≡ said ++ reply_by client room
+      → AnswersAs (record { catalog = store.catalog; table = Some new }) mid now before (not room) (events_by client room value) m
   answers_by true value new mid said now before is elsewhere name holds added = record {
-    at = record { holds = holds_book store named old m.history within held tables new mid (arrived (entry_of value) (m.history.books 1)) elsewhere name holds; text = text_goes_on before said now m.said (insert_line 0 1 0) is added };
+    at = record { holds = holds_book store named old m.history within held tables new mid (arrived (entry_of value) (m.history.books 1)) elsewhere name holds; text = text_goes_on before said now m.said (insert_line client 1 0) is added };
     mark = refl;
   }
   answers_by false value new mid said now before is elsewhere name holds added = record {
-    at = record { holds = holds_same store named old m.history within held tables new mid elsewhere name holds; text = text_goes_on before said now m.said (refused_line 0 LimitPassed) is added };
+    at = record { holds = holds_same store named old m.history within held tables new mid elsewhere name holds; text = text_goes_on before said now m.said (refused_line client LimitPassed) is added };
     mark = refl;
   }
 
   -- a row that was inserted
   pub row_answers : (value : ℕ) (new : NamedTable) (mid : FileId → FileState) (said now before : List ℕ) (refused : Bool) → said ≡ before ++ m.said → ((f : FileId) → f.table ≢ 1 → mid f ≡ old f) → new.name.items ≡ named.name.items
-      → InsertsRow new.table mid value (m.history.books 1) said now refused
-      → AnswersAs (record { catalog = store.catalog; table = Some new }) mid now before refused (insert_known (Some 1) value m.history) m
+      → InsertsRow new.table mid client value (m.history.books 1) said now refused
+      → AnswersAs (record { catalog = store.catalog; table = Some new }) mid now before refused (insert_known client (Some 1) (Some value) m.history) m
   row_answers value new mid said now before refused is elsewhere name row =
       let room = has_room (m.history.books 1) in
-      subst (λ (mark : Bool). AnswersAs (record { catalog = store.catalog; table = Some new }) mid now before mark (events_by room value) m) (sym row.mark)
+      subst (λ (mark : Bool). AnswersAs (record { catalog = store.catalog; table = Some new }) mid now before mark (events_by client room value) m) (sym row.mark)
       (answers_by room value new mid said now before is elsewhere name row.holds row.text)

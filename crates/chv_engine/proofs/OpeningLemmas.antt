@@ -19,6 +19,7 @@ use Rattle.chv_engine.specs.DamageLines.{damage_line}
 use Rattle.chv_engine.specs.Histories.{TableDef, IsDef, AreTexts, History, Stands, Settles, catalog_payload}
 use Rattle.chv_engine.specs.Meets.{MeetsPart}
 use Rattle.chv_engine.specs.Openings.{OpensAs, OpensTables, IsDamageOf}
+use Rattle.chv_engine.specs.Script.{Request}
 use Rattle.chv_engine.specs.declared.store.NamedTable.{NamedTable}
 use Rattle.chv_engine.specs.declared.store.Store.{Store}
 use Rattle.chv_engine.proofs.CatalogLemmas.{one_schema}
@@ -81,8 +82,8 @@ table_undamaged files line def has commits bounded log (inl x) = catalog_undamag
 table_undamaged files line def has commits bounded log (inr x) = commits_undamaged 1 (files FIRST) x.damage commits log bounded x.is
 
 -- so where the first damage is that of a part, no log is damaged
-pub meets_undamaged : (files : Files) (pieces : List (List ℕ)) (line other : List ℕ) → MeetsDamage files pieces line → IsOpeningDamaged files other → ⊥
-meets_undamaged files pieces line other meets damaged = table_undamaged files other meets.def meets.has meets.commits meets.bounded meets.log damaged
+pub meets_undamaged : (files : Files) (requests : List Request) (line other : List ℕ) → MeetsDamage files requests line → IsOpeningDamaged files other → ⊥
+meets_undamaged files requests line other meets damaged = table_undamaged files other meets.def meets.has meets.commits meets.bounded meets.log damaged
 
 -- a catalog with no table is not damaged, and has none
 no_table_undamaged : (files : Files) (line : List ℕ) → HasFrames [] (files CATALOG) → IsOpeningDamaged files line → ⊥
@@ -113,10 +114,10 @@ settled_undamaged files history damage name settles is =
     standing_undamaged (λ f. (files f).bytes) history (damage_line damage name) settles.stands (damage_told (λ f. (files f).bytes) damage name is)
 
 -- of a table that was opened, the parts are as they were, and so is the first that is damaged
-meets_part_of : (table : Option NamedTable) (old new : Files) (pieces : List (List ℕ)) (line : List ℕ) → OpensTables table old new → (meets : MeetsDamage old pieces line)
+meets_part_of : (table : Option NamedTable) (old new : Files) (requests : List Request) (line : List ℕ) → OpensTables table old new → (meets : MeetsDamage old requests line)
     → (named : NamedTable) × (table ≡ Some named) × (named.name.items ≡ meets.def.name) × IsPartDamage 1 named.table.next_part new meets.damage
-meets_part_of None old new pieces line opens meets = absurd (cc (unique [] (catalog_payload meets.def ∷ []) (old CATALOG) opens meets.has.frames))
-meets_part_of (Some named) old new pieces line opens meets =
+meets_part_of None old new requests line opens meets = absurd (cc (unique [] (catalog_payload meets.def ∷ []) (old CATALOG) opens meets.has.frames))
+meets_part_of (Some named) old new requests line opens meets =
     let next : named.table.next_part ≡ 8 + length meets.commits =
     omega (arith, opens.next, ap length (unique (adds 8 opens.commits) (adds 8 meets.commits) (old FIRST) opens.log meets.log), length-adds 8 opens.commits, length-adds 8 meets.commits) in (
       named,
@@ -131,7 +132,7 @@ meets_part_of (Some named) old new pieces line opens meets =
       },
     )
 
-pub meets_part : (store : Store) (old new : Files) (pieces : List (List ℕ)) (line : List ℕ) → OpensAs store old new → (meets : MeetsDamage old pieces line) → MeetsPart store new meets.def.name line
-meets_part store old new pieces line opens meets =
-    let part = meets_part_of store.table old new pieces line opens meets in
+pub meets_part : (store : Store) (old new : Files) (requests : List Request) (line : List ℕ) → OpensAs store old new → (meets : MeetsDamage old requests line) → MeetsPart store new meets.def.name line
+meets_part store old new requests line opens meets =
+    let part = meets_part_of store.table old new requests line opens meets in
     record { named = part.0; stands = part.1; name_is = part.2; damage = meets.damage; is = part.3; told = meets.told }

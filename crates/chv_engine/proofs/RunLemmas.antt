@@ -1,5 +1,5 @@
--- How a run goes on from piece to piece.
-use Rattle.std.proofs.Common.{◌≡◌, ◌⊎◌, inl, inr, ℕ, List, [], ◌∷◌, ◌++◌, Bool, true, false, ◌||◌, Some, refl, sym, ap, subst, ◌∙◌, if◌then◌else◌}
+-- How a run goes on from request to request.
+use Rattle.std.proofs.Common.{◌≡◌, ℕ, List, [], ◌∷◌, ◌++◌, Bool, true, false, ◌||◌, Some, refl, sym, ap, subst, ◌∙◌}
 use Rattle.std.specs.Prelude.{Option}
 use Rattle.chv_site.specs.declared.file_id.FileId.{FileId}
 use Rattle.chv_site.specs.Files.{FileState}
@@ -8,9 +8,9 @@ use Rattle.chv_site.specs.During.{During}
 use Rattle.chv_site.proofs.Moments.{goes_on}
 use Rattle.chv_engine.specs.Crashes.{IsLeftBy, Reaches}
 use Rattle.chv_engine.specs.Damage.{first_statement}
-use Rattle.chv_engine.specs.Runs.{Event, Moment, piece_events, behind, run_events}
-use Rattle.chv_engine.specs.Script.{is_blank}
-use Rattle.chv_engine.specs.Statements.{Statement, SelectAll, statement_of}
+use Rattle.chv_engine.specs.Runs.{Event, Moment, request_events, behind, run_events}
+use Rattle.chv_engine.specs.Script.{Request}
+use Rattle.chv_engine.specs.Forms.{Form, SelectAll}
 use Rattle.chv_engine.specs.Stores.{IsAt, AnswersAs}
 use Rattle.chv_engine.specs.declared.store.Store.{Store}
 use Rattle.chv_engine.proofs.LeftLemmas.{behind-append, early, onward}
@@ -23,35 +23,31 @@ or_false : (b : Bool) → b ≡ (b || false)
 or_false true = refl
 or_false false = refl
 
-true_or_false : (b : Bool) → (b ≡ true) ⊎ (b ≡ false)
-true_or_false true = inl refl
-true_or_false false = inr refl
-
 -- nothing was answered yet
-pub reaches_first : (store : Store) (files : FileId → FileState) (said before : List ℕ) (pieces : List (List ℕ)) (m : Moment) → IsAt store files said before m → Reaches store files said before false pieces pieces m
-reaches_first store files said before pieces m at = record { moment = m; at = at; mark = or_false m.refused; onward = refl; onward_left = λ image text left. left }
+pub reaches_first : (store : Store) (files : FileId → FileState) (said before : List ℕ) (requests : List Request) (m : Moment) → IsAt store files said before m → Reaches store files said before false requests requests m
+reaches_first store files said before requests m at = record { moment = m; at = at; mark = or_false m.refused; onward = refl; onward_left = λ image text left. left }
 
-module _ (pieces : List (List ℕ)) (before : List ℕ) (first : Moment) (refused one : Bool) (old new : Store) (files now_files : FileId → FileState) (said now : List ℕ) (left : List (List ℕ)) (reach : Reaches old files said before refused left pieces first)
-    (piece : List ℕ) (rest : List (List ℕ)) (cut : left ≡ piece ∷ rest) where
+module _ (requests : List Request) (before : List ℕ) (first : Moment) (refused one : Bool) (old new : Store) (files now_files : FileId → FileState) (said now : List ℕ) (left : List Request) (reach : Reaches old files said before refused left requests first)
+    (request : Request) (rest : List Request) (cut : left ≡ request ∷ rest) where
   abbrev pub m : Moment
   m = reach.moment
 
   abbrev pub events : List Event
-  events = piece_events piece m.history
+  events = request_events request m.history
 
   abbrev pub next : Moment
   next = behind events m
 
-  -- the events of what is left are those of the piece, and those of the rest
+  -- the events of what is left are those of the request, and those of the rest
   all_events : run_events left m ≡ events ++ run_events rest next
-  all_events = ap (λ (ps : List (List ℕ)). run_events ps m) cut
+  all_events = ap (λ (rs : List Request). run_events rs m) cut
 
   module _ (answers : AnswersAs new now_files now before one events m) where
     mark_is : next.refused ≡ (first.refused || (refused || one))
     mark_is = answers.mark ∙ ap (λ (b : Bool). b || one) reach.mark ∙ or_assoc first.refused refused one
 
-    -- the next piece was answered
-    pub reaches_next : Reaches new now_files now before (refused || one) rest pieces first
+    -- the next request was answered
+    pub reaches_next : Reaches new now_files now before (refused || one) rest requests first
     reaches_next = record {
       moment = next;
       at = answers.at;
@@ -61,36 +57,28 @@ module _ (pieces : List (List ℕ)) (before : List ℕ) (first : Moment) (refuse
           (subst (λ (es : List Event). IsLeftBy es before m image text) (sym all_events) (onward events (run_events rest next) before m image text left_by));
     }
 
-    -- the last piece was answered
-    pub reaches_end : rest ≡ [] → AnswersAs new now_files now before (refused || one) (run_events pieces first) first
-    unfolding reaches_next
-    reaches_end none =
-        let last : next ≡ behind (run_events pieces first) first =
-        ap (λ (ps : List (List ℕ)). behind (run_events ps next) next) (sym none) ∙ reaches_next.onward in
-        record {
-          at = subst (λ (end : Moment). IsAt new now_files now before end) last answers.at;
-          mark = ap (λ (end : Moment). end.refused) (sym last) ∙ mark_is;
-        }
-
   -- while it is answered
-  pub next_during : {S : Type 0} (moment : S → ℕ) (left_since : S → ℕ → Image → List ℕ → Type 0) (from mid to : S) → During moment left_since from mid (IsLeftBy (run_events pieces first) before first)
-      → During moment left_since mid to (IsLeftBy events before m) → During moment left_since from to (IsLeftBy (run_events pieces first) before first)
+  pub next_during : {S : Type 0} (moment : S → ℕ) (left_since : S → ℕ → Image → List ℕ → Type 0) (from mid to : S) → During moment left_since from mid (IsLeftBy (run_events requests first) before first)
+      → During moment left_since mid to (IsLeftBy events before m) → During moment left_since from to (IsLeftBy (run_events requests first) before first)
   next_during moment left_since from mid to so_far during =
-      goes_on moment left_since from mid to (IsLeftBy (run_events pieces first) before first) (IsLeftBy events before m) so_far during
+      goes_on moment left_since from mid to (IsLeftBy (run_events requests first) before first) (IsLeftBy events before m) so_far during
       (λ image text between. reach.onward_left image text
       (subst (λ (es : List Event). IsLeftBy es before m image text) (sym all_events) (early events (run_events rest next) before m image text between)))
 
--- the first statement of pieces whose first is blank, or not
-pub first_behind : (pieces : List (List ℕ)) (piece : List ℕ) (rest : List (List ℕ)) (s : Option Statement) → pieces ≡ piece ∷ rest → is_blank piece ≡ true → first_statement pieces ≡ s → first_statement rest ≡ s
-first_behind pieces piece rest s cut blank is =
-    sym (ap (λ (b : Bool). if b then first_statement rest else statement_of piece) blank) ∙ sym (ap first_statement cut) ∙ is
+-- no request is left
+pub reaches_end : (requests : List Request) (before : List ℕ) (first : Moment) (refused : Bool) (store : Store) (files : FileId → FileState) (said : List ℕ) (left : List Request) → Reaches store files said before refused left requests first → left ≡ []
+    → AnswersAs store files said before refused (run_events requests first) first
+reaches_end requests before first refused store files said left reach none =
+    let last : reach.moment ≡ behind (run_events requests first) first =
+    ap (λ (rs : List Request). behind (run_events rs reach.moment) reach.moment) (sym none) ∙ reach.onward in
+    record {
+      at = subst (λ (end : Moment). IsAt store files said before end) last reach.at;
+      mark = ap (λ (end : Moment). end.refused) (sym last) ∙ reach.mark;
+    }
 
-pub first_of : (pieces : List (List ℕ)) (piece : List ℕ) (rest : List (List ℕ)) (s : Option Statement) → pieces ≡ piece ∷ rest → is_blank piece ≡ false → first_statement pieces ≡ s → statement_of piece ≡ s
-first_of pieces piece rest s cut black is =
-    sym (ap (λ (b : Bool). if b then first_statement rest else statement_of piece) black) ∙ sym (ap first_statement cut) ∙ is
+-- the first statement is that of the first request
+pub first_of : (requests : List Request) (request : Request) (rest : List Request) (s : Option Form) → requests ≡ request ∷ rest → first_statement requests ≡ s → request.statement ≡ s
+first_of requests request rest s cut is = sym (ap first_statement cut) ∙ is
 
-pub no_statement : (name : List ℕ) → first_statement [] ≡ Some (SelectAll name) → ⊥
-no_statement name is = absurd (cc is)
-
-pub blank_or_not : (piece : List ℕ) → (is_blank piece ≡ true) ⊎ (is_blank piece ≡ false)
-blank_or_not piece = true_or_false (is_blank piece)
+pub no_statement : (requests : List Request) (name : List ℕ) → requests ≡ [] → first_statement requests ≡ Some (SelectAll name) → ⊥
+no_statement requests name none is = let first : first_statement [] ≡ Some (SelectAll name) = sym (ap first_statement none) ∙ is in absurd (cc first)

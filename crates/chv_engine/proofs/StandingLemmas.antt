@@ -19,7 +19,7 @@ use Rattle.chv_engine.specs.Crashes.{StandsWith, IsLeftBy}
 use Rattle.chv_engine.specs.Runs.{Event, begins}
 use Rattle.chv_engine.specs.Histories.{TableDef, IsDef, History, Stands, Settles, catalog_payload}
 use Rattle.chv_engine.proofs.LeftLemmas.{left_still}
-use Rattle.chv_engine.proofs.TextLemmas.{create_text-unique}
+use Rattle.chv_engine.proofs.DefineLemmas.{text_unique}
 
 -- the catalog's log, and that of the first table
 abbrev pub CATALOG : FileId
@@ -136,7 +136,7 @@ schema_unique (x ∷ xs) (y ∷ ys) of_xs of_ys same =
     let other = All-head IsDef y ys of_ys in
     let text : catalog_payload x ≡ catalog_payload y = cc in
     let texts : map catalog_payload xs ≡ map catalog_payload ys = cc in
-    let first = create_text-unique x.name x.column y.name y.column lawful.name lawful.column other.name other.column text in
+    let first = text_unique x y lawful other text in
     let rest = schema_unique xs ys (All-tail IsDef x xs of_xs) (All-tail IsDef y ys of_ys) texts in
     ap (λ (l : List ℕ). record { name = l; column = x.column } ∷ xs) first.0
     ∙ ap (λ (l : List ℕ). record { name = y.name; column = l } ∷ xs) first.1

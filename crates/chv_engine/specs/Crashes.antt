@@ -5,6 +5,7 @@ use Rattle.chv_site.specs.Images.{Image}
 use Rattle.chv_site.specs.declared.file_id.FileId.{FileId}
 use Rattle.chv_engine.specs.Histories.{History, Stands}
 use Rattle.chv_engine.specs.Runs.{Event, Created, Committed, Replied, Moment, behind, run_events}
+use Rattle.chv_engine.specs.Script.{Request}
 use Rattle.chv_engine.specs.Stores.{IsAt}
 use Rattle.chv_engine.specs.declared.store.Store.{Store}
 
@@ -38,11 +39,11 @@ pub record IsLeftBy (events : List Event) (before : List ℕ) (first : Moment) (
   pub stands : Stands image (behind done first).history
   pub said : IsFrontOf (says_next left) (before ++ (behind done first).said) text
 
--- from the first moment on, pieces have led to a moment that the store is at: what comes of the pieces that are left comes
--- of all, and what a crash leaves while they are answered is left by the whole
-pub record Reaches (store : Store) (files : FileId → FileState) (said before : List ℕ) (refused : Bool) (left pieces : List (List ℕ)) (first : Moment) : Type 0 where
+-- from the first moment on, requests have led to a moment that the store is at: what comes of the requests that are left
+-- comes of all, and what a crash leaves while they are answered is left by the whole
+pub record Reaches (store : Store) (files : FileId → FileState) (said before : List ℕ) (refused : Bool) (left requests : List Request) (first : Moment) : Type 0 where
   pub moment : Moment
   pub at : IsAt store files said before moment
   pub mark : moment.refused ≡ (first.refused || refused)
-  pub onward : behind (run_events left moment) moment ≡ behind (run_events pieces first) first
-  pub onward_left : (image : Image) (text : List ℕ) → IsLeftBy (run_events left moment) before moment image text → IsLeftBy (run_events pieces first) before first image text
+  pub onward : behind (run_events left moment) moment ≡ behind (run_events requests first) first
+  pub onward_left : (image : Image) (text : List ℕ) → IsLeftBy (run_events left moment) before moment image text → IsLeftBy (run_events requests first) before first image text

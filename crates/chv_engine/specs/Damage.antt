@@ -1,5 +1,5 @@
 -- How a store is damaged: docs/FORMATS.md, "Damage".
-use Rattle.std.specs.Prelude.{ℕ, ◌≡◌, ◌⊎◌, ◌+◌, ◌≤◌, List, [], ◌∷◌, length, Option, None, Some, if◌then◌else◌}
+use Rattle.std.specs.Prelude.{ℕ, ◌≡◌, ◌⊎◌, ◌+◌, ◌≤◌, List, [], ◌∷◌, length, Option, None, Some}
 use Rattle.chv_site.specs.declared.file_id.FileId.{FileId}
 use Rattle.chv_gate.specs.GateLog.{HasFrames}
 use Rattle.chv_gate.specs.Reading.{IsDamagedAt}
@@ -9,8 +9,8 @@ use Rattle.chv_table.specs.Commits.{Commit, adds, MAX_ENTRIES}
 use Rattle.chv_table.specs.Damage.{IsLogDamage, IsPartDamage}
 use Rattle.chv_engine.specs.DamageLines.{damage_line}
 use Rattle.chv_engine.specs.Histories.{TableDef, IsDef, AreTexts, catalog_payload}
-use Rattle.chv_engine.specs.Script.{is_blank}
-use Rattle.chv_engine.specs.Statements.{Statement, SelectAll, statement_of}
+use Rattle.chv_engine.specs.Script.{Request}
+use Rattle.chv_engine.specs.Forms.{Form, SelectAll}
 
 -- the bytes of each file
 abbrev pub Files : Type 0
@@ -39,20 +39,20 @@ pub record IsTableDamaged (files : Files) (line : List ℕ) : Type 0 where
 abbrev pub IsOpeningDamaged : Files → List ℕ → Type 0
 IsOpeningDamaged files line = IsCatalogDamaged files line ⊎ IsTableDamaged files line
 
--- the statement of the first piece that is not blank
-abbrev pub first_statement : List (List ℕ) → Option Statement
+-- the statement of the first request, where there is one
+abbrev pub first_statement : List Request → Option Form
 first_statement [] = None
-first_statement (piece ∷ pieces) = if is_blank piece then first_statement pieces else statement_of piece
+first_statement (request ∷ requests) = request.statement
 
 -- no log is damaged, the first statement shows all rows of the table, and this line tells the first of its parts that is
 -- damaged
-pub record MeetsDamage (files : Files) (pieces : List (List ℕ)) (line : List ℕ) : Type 0 where
+pub record MeetsDamage (files : Files) (requests : List Request) (line : List ℕ) : Type 0 where
   pub def : TableDef
   pub has : HasTable files def
   pub commits : List Commit
   pub bounded : length commits ≤ MAX_ENTRIES
   pub log : HasFrames (adds 8 commits) (files (record { table = 1; part = 0 }))
-  pub first : first_statement pieces ≡ Some (SelectAll def.name)
+  pub first : first_statement requests ≡ Some (SelectAll def.name)
   pub damage : Damage
   pub is : IsPartDamage 1 (8 + length commits) files damage
   pub told : line ≡ damage_line damage def.name

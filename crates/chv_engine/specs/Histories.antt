@@ -1,11 +1,11 @@
 -- What a store has, and what its files hold where they stand for it.
-use Rattle.std.specs.Prelude.{ℕ, ◌≡◌, ◌<◌, ◌≤◌, List, [], ◌∷◌, ◌++◌, length, map, IsTrue, ◌==◌, if◌then◌else◌}
+use Rattle.std.specs.Prelude.{ℕ, ◌≡◌, ◌<◌, ◌≤◌, List, [], ◌∷◌, ◌++◌, length, map, ◌==◌, if◌then◌else◌}
 use Rattle.std.specs.List.{All}
 use Rattle.chv_site.specs.declared.file_id.FileId.{FileId}
 use Rattle.chv_site.specs.Files.{FileState, settled}
 use Rattle.chv_gate.specs.GateLog.{HasFrames}
 use Rattle.chv_table.specs.Books.{Book, no_book, TableStands}
-use Rattle.chv_engine.specs.Statements.{is_name}
+use Rattle.chv_ast.specs.Words.{IsName}
 use Rattle.chv_engine.specs.Texts.{create_text}
 
 -- a table as its CREATE statement defines it: one column of UInt64, which is its key
@@ -34,8 +34,8 @@ with_table def history =
 
 -- a table's names are names of the language
 pub record IsDef (def : TableDef) : Type 0 where
-  pub name : IsTrue (is_name def.name)
-  pub column : IsTrue (is_name def.column)
+  pub name : IsName def.name
+  pub column : IsName def.column
 
 -- CREATE statements can make these tables; so far they make one
 pub record IsSchema (schema : List TableDef) : Type 0 where

@@ -14,21 +14,21 @@ use Rattle.chv_text.specs.Replies.{insert_line, refused_line}
 abbrev pub has_room : Book → Bool
 has_room book = nat_lt (length book.entries) MAX_ENTRIES
 
--- the book behind an insert, and what is said
+-- the book behind an insert, and what is said to its client
 abbrev pub grown : ℕ → Book → Book
 grown value book = if has_room book then arrived (entry_of value) book else book
 
-abbrev pub row_reply : Book → List ℕ
-row_reply book = if has_room book then insert_line 0 1 0 else refused_line 0 LimitPassed
+abbrev pub row_reply : ℕ → Book → List ℕ
+row_reply client book = if has_room book then insert_line client 1 0 else refused_line client LimitPassed
 
 -- the row was inserted, or refused for want of room
-pub record InsertsRow (table : Table) (files : FileId → FileState) (value : ℕ) (book : Book) (before said : List ℕ) (refused : Bool) : Type 0 where
+pub record InsertsRow (table : Table) (files : FileId → FileState) (client value : ℕ) (book : Book) (before said : List ℕ) (refused : Bool) : Type 0 where
   pub holds : HoldsBook table files (grown value book)
-  pub text : said ≡ before ++ row_reply book
+  pub text : said ≡ before ++ row_reply client book
   pub mark : refused ≡ not (has_room book)
 
 -- meanwhile: the files of other tables are as a crash may leave them; this table's stand for its book before it, and
 -- nothing is said, or for its book behind it, while the reply is said
-pub record RowLeft (number value : ℕ) (book : Book) (files : FileId → FileState) (said : List ℕ) (image : Image) (text : List ℕ) : Type 0 where
+pub record RowLeft (number client value : ℕ) (book : Book) (files : FileId → FileState) (said : List ℕ) (image : Image) (text : List ℕ) : Type 0 where
   pub others : (f : FileId) → f.table ≢ number → IsFileImage (files f) (image f)
-  pub stands : (TableStands image number book × (text ≡ said)) ⊎ (TableStands image number (grown value book) × IsFrontOf (row_reply book) said text)
+  pub stands : (TableStands image number book × (text ≡ said)) ⊎ (TableStands image number (grown value book) × IsFrontOf (row_reply client book) said text)

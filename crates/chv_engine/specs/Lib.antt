@@ -4,15 +4,15 @@ pub mod Damage
 pub mod DamageLines
 pub mod Ends
 pub mod Faults
+pub mod Forms
 pub mod Histories
 pub mod Inserts
-pub mod Lexemes
 pub mod Meets
 pub mod Openings
 pub mod Pulls
 pub mod Runs
 pub mod Script
-pub mod Statements
+pub mod SeenForms
 pub mod Stores
 pub mod Texts
 pub mod Words

@@ -1,25 +1,35 @@
--- What a script is cut into.
-use Rattle.std.specs.Prelude.{ℕ, List, [], ◌∷◌, Bool, ◌==◌, ◌||◌, if◌then◌else◌}
-use Rattle.std.specs.List.{list_all}
+-- What the clients of a script ask for.
+use Rattle.std.specs.Prelude.{ℕ, ◌+◌, ◌-◌, List, ◌++◌, map, drop, slice_range, ◌==◌, Option}
+use Rattle.std.specs.List.{filter, flat_map, range_with_len}
+use Rattle.chv_lex.specs.Scripts.{pieces_of}
+use Rattle.chv_lex.specs.declared.piece.Piece.{Piece}
+use Rattle.chv_engine.specs.Forms.{Form, statement_of}
 
--- white space is space, tab, line feed and carriage return
-abbrev pub is_white : ℕ → Bool
-is_white b = b == 32 || b == 9 || b == 10 || b == 13
+-- a client asks for a statement, where its text is one
+pub record Request : Type 0 where
+  pub client : ℕ
+  pub statement : Option Form
 
--- a piece of white space alone
-abbrev pub is_blank : List ℕ → Bool
-is_blank = list_all is_white
+-- the pieces of a client, in the order of the script
+abbrev pub of_client : List Piece → ℕ → List Piece
+of_client pieces client = filter (λ piece. piece.client == client) pieces
 
--- pieces with a byte more in front of the first
-abbrev pub joined : ℕ → List (List ℕ) → List (List ℕ)
-joined b [] = (b ∷ []) ∷ []
-joined b (piece ∷ pieces) = (b ∷ piece) ∷ pieces
+-- the pieces of the clients from one on up to client 15, client by client
+unfoldable pub from_client : ℕ → List Piece → List Piece
+from_client client pieces = flat_map (of_client pieces) (range_with_len client (16 - client))
 
--- the pieces of a text that begins with a byte, from those behind it: a `;` ends the empty piece in front of it
-abbrev pub cut_or_joined : ℕ → List (List ℕ) → List (List ℕ)
-cut_or_joined b pieces = if b == 59 then [] ∷ pieces else joined b pieces
+-- the pieces that are left of a client behind a place, and those of the clients behind it
+unfoldable pub left_at : ℕ → ℕ → List Piece → List Piece
+left_at client place pieces = of_client (drop place pieces) client ++ from_client (client + 1) pieces
 
--- a script cut at each `;`: the rest behind the last one is a piece too
-abbrev pub pieces_of : List ℕ → List (List ℕ)
-pieces_of [] = [] ∷ []
-pieces_of (b ∷ bytes) = cut_or_joined b (pieces_of bytes)
+-- what a piece of a script asks for
+abbrev pub request_of : List ℕ → Piece → Request
+request_of script piece = record { client = piece.client; statement = statement_of (slice_range script piece.start piece.end) }
+
+-- what pieces of a script ask for
+abbrev pub requests_in : List ℕ → List Piece → List Request
+requests_in script = map (request_of script)
+
+-- what a script asks for: the requests of client 0 in the order of the script, then those of client 1, and so on
+unfoldable pub requests_of : List ℕ → List Request
+requests_of script = requests_in script (from_client 0 (pieces_of script))

@@ -7,6 +7,7 @@ use Rattle.chv_table.specs.Tables.{HoldsBook}
 use Rattle.chv_table.specs.Tables.{IsWithin as IsTableWithin, IsPlaced as IsTablePlaced}
 use Rattle.chv_engine.specs.Histories.{History, IsSchema, Stands, catalog_payload}
 use Rattle.chv_engine.specs.Runs.{Event, Moment, begins, behind, run_events}
+use Rattle.chv_engine.specs.Script.{Request}
 use Rattle.chv_engine.specs.declared.store.NamedTable.{NamedTable}
 use Rattle.chv_engine.specs.declared.store.Store.{Store}
 
@@ -53,7 +54,7 @@ pub record AnswersAs (store : Store) (files : FileId → FileState) (said before
   pub mark : (behind events m).refused ≡ (m.refused || refused)
 
 -- how a run that comes to its end ends: it is at the last moment
-pub record EndsAt (pieces : List (List ℕ)) (history : History) (files : FileId → FileState) (before said : List ℕ) (refused : Bool) : Type 0 where
-  pub text : said ≡ before ++ (behind (run_events pieces (begins history)) (begins history)).said
-  pub stands : Stands (λ f. (files f).bytes) (behind (run_events pieces (begins history)) (begins history)).history
-  pub mark : (behind (run_events pieces (begins history)) (begins history)).refused ≡ refused
+pub record EndsAt (requests : List Request) (history : History) (files : FileId → FileState) (before said : List ℕ) (refused : Bool) : Type 0 where
+  pub text : said ≡ before ++ (behind (run_events requests (begins history)) (begins history)).said
+  pub stands : Stands (λ f. (files f).bytes) (behind (run_events requests (begins history)) (begins history)).history
+  pub mark : (behind (run_events requests (begins history)) (begins history)).refused ≡ refused

@@ -1,5 +1,5 @@
 // Canonical texts, written and read back.
-use crate::define::{TableText, read_create};
+use crate::define::read_create;
 use crate::print::create_text;
 use std::test::Fail;
 
@@ -11,45 +11,54 @@ const A_64: &'static [u8] = b"aaaaaaaaaaaaaaaaaaaaaaaaaaaaaaaaaaaaaaaaaaaaaaaaaa
 fn a_table_is_written_as_its_canonical_text(rt: HostRuntime) -> Result<(), Fail> {
     let text = create_text(rt.alloc(), b"orders", b"id")?;
     assert_eq!(rt; text.as_slice(), ORDERS);
+    let quoted = create_text(rt.alloc(), b"select", b"By")?;
+    assert_eq!(rt;
+        quoted.as_slice(),
+        b"CREATE TABLE `select` (`By` UInt64) ENGINE = MergeTree ORDER BY (`By`)".as_slice()
+    );
     Ok(())
 }
 
 #[test]
 fn a_canonical_text_is_read_as_its_table(rt: HostRuntime) -> Result<(), Fail> {
-    let cases: [(&[u8], &[u8], &[u8]); 5] = [
-        (ORDERS, b"orders", b"id"),
+    let cases: [(&[u8], &[u8]); 6] = [
+        (ORDERS, b"orders"),
         (
             b"CREATE TABLE t (a UInt64) ENGINE = MergeTree ORDER BY (a)",
             b"t",
-            b"a",
         ),
         // Names of 64 letters.
         (
             b"CREATE TABLE aaaaaaaaaaaaaaaaaaaaaaaaaaaaaaaaaaaaaaaaaaaaaaaaaaaaaaaaaaaaaaaa (id UInt64) ENGINE = MergeTree ORDER BY (id)",
             A_64,
-            b"id",
         ),
+        // Names keep their case.
         (
-            b"CREATE TABLE t (aaaaaaaaaaaaaaaaaaaaaaaaaaaaaaaaaaaaaaaaaaaaaaaaaaaaaaaaaaaaaaaa UInt64) ENGINE = MergeTree ORDER BY (aaaaaaaaaaaaaaaaaaaaaaaaaaaaaaaaaaaaaaaaaaaaaaaaaaaaaaaaaaaaaaaa)",
-            b"t",
-            A_64,
+            b"CREATE TABLE Orders_2 (iD UInt64) ENGINE = MergeTree ORDER BY (iD)",
+            b"Orders_2",
         ),
-        // Words that are not reserved are names in small letters.
+        // Words that are not reserved are names; reserved words are names in backquotes.
         (
             b"CREATE TABLE create (table UInt64) ENGINE = MergeTree ORDER BY (table)",
             b"create",
-            b"table",
+        ),
+        (
+            b"CREATE TABLE `values` (`by` UInt64) ENGINE = MergeTree ORDER BY (`by`)",
+            b"values",
         ),
     ];
-    for (text, name, column) in cases {
-        assert_eq!(rt; read_create(text), Some(TableText { name, column }));
+    for (text, name) in cases {
+        match read_create(rt.alloc(), text)? {
+            Some(read) => assert_eq!(rt; read.as_slice(), name),
+            None => assert!(rt; false),
+        }
     }
     Ok(())
 }
 
 #[test]
 fn another_text_is_read_as_no_table(rt: HostRuntime) -> Result<(), Fail> {
-    let cases: [&[u8]; 25] = [
+    let cases: [&[u8]; 27] = [
         // One space more, or one fewer.
         b" CREATE TABLE orders (id UInt64) ENGINE = MergeTree ORDER BY (id)",
         b"CREATE  TABLE orders (id UInt64) ENGINE = MergeTree ORDER BY (id)",
@@ -62,26 +71,29 @@ fn another_text_is_read_as_no_table(rt: HostRuntime) -> Result<(), Fail> {
         b"CREATE TABLE orders (id UInt64) ENGINE = MergeTree ORDER BY ( id)",
         b"CREATE TABLE orders (id UInt64) ENGINE = MergeTree ORDER BY (id )",
         b"CREATE TABLE orders (id UInt64) ENGINE = MergeTree ORDER BY (id) ",
-        // The key stands in parentheses, and is the column.
+        // The key stands in parentheses, and is the column; the engine stands behind `=` and without parentheses.
         b"CREATE TABLE orders (id UInt64) ENGINE = MergeTree ORDER BY id",
         b"CREATE TABLE orders (id UInt64) ENGINE = MergeTree ORDER BY (a)",
-        b"CREATE TABLE orders (id UInt64) ENGINE = MergeTree ORDER BY (i)",
-        b"CREATE TABLE orders (id UInt64) ENGINE = MergeTree ORDER BY (idx)",
         b"CREATE TABLE orders (id UInt64) ENGINE = MergeTree ORDER BY ()",
-        // Names have 1 to 64 small letters, and none is reserved.
-        b"CREATE TABLE Orders (id UInt64) ENGINE = MergeTree ORDER BY (id)",
-        b"CREATE TABLE orders (iD UInt64) ENGINE = MergeTree ORDER BY (iD)",
-        b"CREATE TABLE orders2 (id UInt64) ENGINE = MergeTree ORDER BY (id)",
+        b"CREATE TABLE orders (id UInt64) ENGINE = MergeTree ORDER BY tuple()",
+        b"CREATE TABLE orders (id UInt64) ENGINE MergeTree ORDER BY (id)",
+        b"CREATE TABLE orders (id UInt64) ENGINE = MergeTree() ORDER BY (id)",
+        // A reserved word needs backquotes, another name has none.
         b"CREATE TABLE values (id UInt64) ENGINE = MergeTree ORDER BY (id)",
         b"CREATE TABLE orders (by UInt64) ENGINE = MergeTree ORDER BY (by)",
-        b"CREATE TABLE orders ( UInt64) ENGINE = MergeTree ORDER BY ()",
+        b"CREATE TABLE `orders` (id UInt64) ENGINE = MergeTree ORDER BY (id)",
         b"CREATE TABLE aaaaaaaaaaaaaaaaaaaaaaaaaaaaaaaaaaaaaaaaaaaaaaaaaaaaaaaaaaaaaaaaa (id UInt64) ENGINE = MergeTree ORDER BY (id)",
         // Keywords are written in capitals.
         b"create TABLE orders (id UInt64) ENGINE = MergeTree ORDER BY (id)",
         b"CREATE TABLE orders (id UInt64) ENGINE = MergeTree order by (id)",
+        // Statements that are not built, and what is no statement of a table.
+        b"CREATE TABLE orders (id UInt32) ENGINE = MergeTree ORDER BY (id)",
+        b"CREATE TABLE orders (id UInt64) ENGINE = MergeTree ORDER BY (id) SETTINGS non_replicated_deduplication_window = 7",
+        b"SELECT * FROM orders",
+        b"CREATE TABLE orders (id UInt64) ENGINE = MergeTree ORDER BY (id) -- a comment",
     ];
     for text in cases {
-        assert_eq!(rt; read_create(text), None);
+        assert!(rt; read_create(rt.alloc(), text)?.is_none());
     }
     Ok(())
 }
@@ -89,7 +101,10 @@ fn another_text_is_read_as_no_table(rt: HostRuntime) -> Result<(), Fail> {
 #[test]
 fn a_text_is_read_whole(rt: HostRuntime) -> Result<(), Fail> {
     for end in 0..ORDERS.len() {
-        assert_eq!(rt; read_create(&ORDERS[..end]), None, "of {end} bytes");
+        assert!(rt;
+            read_create(rt.alloc(), &ORDERS[..end])?.is_none(),
+            "of {end} bytes"
+        );
     }
     Ok(())
 }

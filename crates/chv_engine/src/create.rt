@@ -5,8 +5,8 @@ ghost use Rattle.chv_gate.specs.GateLog.{frame_of};
 ghost use Rattle.chv_engine.specs.Crashes.{EitherStands, IsLeftBy};
 ghost use Rattle.chv_engine.specs.Faults.{IsCaused};
 ghost use Rattle.chv_engine.specs.Histories.{History, IsDef, with_table};
-ghost use Rattle.chv_engine.specs.Runs.{Moment, create_first, statement_events};
-ghost use Rattle.chv_engine.specs.Statements.{CreateTable};
+ghost use Rattle.chv_engine.specs.Runs.{Moment, create_first, form_events};
+ghost use Rattle.chv_engine.specs.Forms.{CreateTable};
 ghost use Rattle.chv_engine.specs.Stores.{IsWithin, IsPlaced, Holds, IsAt, AnswersAs};
 ghost use Rattle.chv_engine.specs.Texts.{create_text};
 
@@ -35,6 +35,7 @@ impl Store {
         &mut self,
         alloc: Global,
         site: &mut W,
+        client: u8,
         name: &[u8],
         column: &[u8],
     ) -> Result<bool, RunFault>
@@ -42,19 +43,19 @@ impl Store {
         requires placed { W.tells → IsPlaced self.old (W.state site.old) }
         requires names { IsDef (record { name = name.now; column = column.now }) }
         ensures answered { W.tells → IfOk result (λ refused. (before : List ℕ) (m : Moment) → IsAt self.old (W.state site.old) (W.said site.old) before m
-            → AnswersAs self.new (W.state site.new) (W.said site.new) before refused (statement_events (Some (CreateTable name.now column.now)) m.history) m) }
+            → AnswersAs self.new (W.state site.new) (W.said site.new) before refused (form_events client (CreateTable name.now column.now) m.history) m) }
         // A crash at any moment of the call leaves what is between its events.
         ensures during { W.tells → (before : List ℕ) (m : Moment) → IsAt self.old (W.state site.old) (W.said site.old) before m
-            → During W.moment W.left_since site.old site.new (IsLeftBy (statement_events (Some (CreateTable name.now column.now)) m.history) before m) }
+            → During W.moment W.left_since site.old site.new (IsLeftBy (form_events client (CreateTable name.now column.now) m.history) before m) }
         ensures undamaged { ¬ IsErrOf result RunFault.Damaged }
         ensures within { OnOk result (IsWithin self.new) }
         ensures placed { W.tells → OnOk result (IsPlaced self.new (W.state site.new)) }
         ensures faults { IsCaused (W.disk_faults site.old) (W.disk_faults site.new) (W.say_faults site.old) (W.say_faults site.new) result }
     {
         match &self.table {
-            Some(named) if named.is_named(name) => refuse(site, Refusal::NameTaken),
-            Some(_) => refuse(site, Refusal::NotBuilt),
-            None => self.create_first(alloc, site, name, column),
+            Some(named) if named.is_named(name) => refuse(site, client, Refusal::NameTaken),
+            Some(_) => refuse(site, client, Refusal::NotBuilt),
+            None => self.create_first(alloc, site, client, name, column),
         }
     }
 
@@ -63,6 +64,7 @@ impl Store {
         &mut self,
         alloc: Global,
         site: &mut W,
+        client: u8,
         name: &[u8],
         column: &[u8],
     ) -> Result<bool, RunFault>
@@ -71,17 +73,17 @@ impl Store {
         requires names { IsDef (record { name = name.now; column = column.now }) }
         requires first { self.old.table ≡ None }
         ensures answered { W.tells → IfOk result (λ refused. (before : List ℕ) (m : Moment) → IsAt self.old (W.state site.old) (W.said site.old) before m
-            → AnswersAs self.new (W.state site.new) (W.said site.new) before refused (create_first [] (record { name = name.now; column = column.now })) m) }
+            → AnswersAs self.new (W.state site.new) (W.said site.new) before refused (create_first client [] (record { name = name.now; column = column.now })) m) }
         // A crash at any moment of the call leaves what is between its events.
         ensures during { W.tells → (before : List ℕ) (m : Moment) → IsAt self.old (W.state site.old) (W.said site.old) before m
-            → During W.moment W.left_since site.old site.new (IsLeftBy (create_first [] (record { name = name.now; column = column.now })) before m) }
+            → During W.moment W.left_since site.old site.new (IsLeftBy (create_first client [] (record { name = name.now; column = column.now })) before m) }
         ensures undamaged { ¬ IsErrOf result RunFault.Damaged }
         ensures within { OnOk result (IsWithin self.new) }
         ensures placed { W.tells → OnOk result (IsPlaced self.new (W.state site.new)) }
         ensures faults { IsCaused (W.disk_faults site.old) (W.disk_faults site.new) (W.say_faults site.old) (W.say_faults site.new) result }
     {
         self.create_table(alloc, site, name, column)?;
-        reply(site, line_ok(0).as_slice(), false)
+        reply(site, line_ok(client).as_slice(), false)
     }
 
     // Makes the first table: its log is begun before the catalog's gate is opened.
@@ -122,7 +124,7 @@ impl Store {
 fn spell_table(alloc: Global, name: &[u8], column: &[u8]) -> Result<Creation, AllocError>
     requires { IsDef (record { name = name.now; column = column.now }) }
     ensures frame { IfOk result (λ creation. creation.frame.items ≡ frame_of (create_text name.now column.now)) }
-    ensures short { IfOk result (λ creation. length creation.frame.items ≤ 256) }
+    ensures short { IfOk result (λ creation. length creation.frame.items ≤ 512) }
     ensures name { IfOk result (λ creation. creation.name.items ≡ name.now) }
 {
     let text = create_text(alloc, name, column)?;

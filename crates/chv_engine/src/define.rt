@@ -1,56 +1,54 @@
 // Tables, read back from the canonical texts that create them.
-ghost use Rattle.std.specs.Prelude.{◌≡◌, ◌≢◌, ◌==◌, ◌++◌, ◌∷◌, ℕ, List, IfNone, IfSome, IsTrue};
-ghost use Rattle.std.specs.List.{position};
-ghost use Rattle.chv_engine.specs.Statements.{is_name};
-ghost use Rattle.chv_engine.specs.Texts.{create_text};
+ghost use Rattle.std.specs.Prelude.{◌≡◌, ◌≢◌, Some, IfOk, IfNone, IfSome};
+ghost use Rattle.chv_parse.specs.StatementTexts.{statement_in};
+ghost use Rattle.chv_engine.specs.Histories.{TableDef, IsDef, catalog_payload};
 
-use crate::parse::is_name;
-use crate::prefix::behind_prefix;
+use crate::form::{Form, form_of};
+use crate::print::create_text;
+use crate::reading::read;
+use chv_ast::Statement;
+use std::alloc::{AllocError, Global};
 
-/// What a canonical text creates: a table of this name, and its one UInt64 column, which is its key. Both names have 1 to
-/// 64 small letters, and neither is a reserved word.
-#[derive(Clone, Copy, Debug, PartialEq, Eq)]
-pub struct TableText<'a> {
-    pub name: &'a [u8],
-    pub column: &'a [u8],
-}
-
-/// The table that a canonical text creates, and None for each other text, be it other by a single space.
-pub fn read_create(text: &[u8]) -> Option<TableText<'_>>
-    ensures none { IfNone result ((name column : List ℕ) → IsTrue (is_name name) → IsTrue (is_name column) → text.now ≢ create_text name column) }
-    ensures names { IfSome result (λ table. IsTrue (is_name table.name.now) × IsTrue (is_name table.column.now)) }
-    ensures some { IfSome result (λ table. text.now ≡ create_text table.name.now table.column.now) }
+/// The name of the table that a canonical text creates, and None for each other text, be it other by a single space.
+pub fn read_create(alloc: Global, text: &[u8]) -> Result<Option<Vec<u8>>, AllocError>
+    ensures none { IfOk result (λ read. IfNone read ((def : TableDef) → IsDef def → text.now ≢ catalog_payload def)) }
+    ensures some { IfOk result (λ read. IfSome read (λ name. (def : TableDef) × IsDef def × (name.items ≡ def.name) × (text.now ≡ catalog_payload def))) }
 {
-    let rest = behind_prefix(text, b"CREATE TABLE ")?;
-    let (name, rest) = split_name(rest)?;
-    let rest = behind_prefix(rest, b"(")?;
-    let (column, rest) = split_name(rest)?;
-    let rest = behind_prefix(rest, b"UInt64) ENGINE = MergeTree ORDER BY (")?;
-    let rest = behind_prefix(rest, column)?;
-    if rest == b")".as_slice() {
-        Some(TableText { name, column })
-    } else {
-        None
+    match read(alloc, text)? {
+        Some(statement) => table_of(alloc, &statement, text),
+        None => Ok(None),
     }
 }
 
-// The name that a text begins with, up to a space, and the text behind that space.
-fn split_name(text: &[u8]) -> Option<(&[u8], &[u8])>
-    ensures none { IfNone result ((name rest : List ℕ) → IsTrue (is_name name) → text.now ≢ name ++ 32 ∷ rest) }
-    ensures name { IfSome result (λ split. IsTrue (is_name split.0.now)) }
-    ensures some { IfSome result (λ split. text.now ≡ split.0.now ++ 32 ∷ split.1.now) }
+// The name of the table that a statement creates, where the text that it was read from is its canonical text.
+fn table_of(
+    alloc: Global,
+    statement: &Statement,
+    text: &[u8],
+) -> Result<Option<Vec<u8>>, AllocError>
+    requires read { statement_in text.now ≡ Some statement.now }
+    ensures none { IfOk result (λ read. IfNone read ((def : TableDef) → IsDef def → text.now ≢ catalog_payload def)) }
+    ensures some { IfOk result (λ read. IfSome read (λ name. (def : TableDef) × IsDef def × (name.items ≡ def.name) × (text.now ≡ catalog_payload def))) }
 {
-    let end = first_space(text)?;
-    let name = &text[..end];
-    if !is_name(name) {
-        return None;
+    match form_of(statement) {
+        Form::CreateTable { name, column } => table_named(alloc, name, column, text),
+        _ => Ok(None),
     }
-    Some((name, &text[end + 1..]))
 }
 
-// The place of the first space.
-fn first_space(text: &[u8]) -> Option<usize>
-    ensures { result ≡ position (λ b. b == 32) text.now }
+// The name of a table, where this is its canonical text.
+fn table_named(
+    alloc: Global,
+    name: &[u8],
+    column: &[u8],
+    text: &[u8],
+) -> Result<Option<Vec<u8>>, AllocError>
+    ensures none { IfOk result (λ read. IfNone read (text.now ≢ catalog_payload (record { name = name.now; column = column.now }))) }
+    ensures some { IfOk result (λ read. IfSome read (λ kept. (kept.items ≡ name.now) × (text.now ≡ catalog_payload (record { name = name.now; column = column.now })))) }
 {
-    text.iter().position(|byte| *byte == b' ')
+    let canonical = create_text(alloc, name, column)?;
+    if canonical.as_slice() != text {
+        return Ok(None);
+    }
+    Ok(Some(Vec::from_slice(alloc, name)?))
 }

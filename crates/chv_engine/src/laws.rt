@@ -6,6 +6,7 @@ ghost use Rattle.chv_engine.specs.Acknowledged.{IsAcknowledged, IsHeld};
 ghost use Rattle.chv_engine.specs.Crashes.{IsLeftBy};
 ghost use Rattle.chv_engine.specs.Histories.{History};
 ghost use Rattle.chv_engine.specs.Runs.{Event, Replied, Plan, Moment, begins, behind, run_events};
+ghost use Rattle.chv_engine.specs.Script.{Request};
 
 /// An insert whose reply was said to its end is acknowledged at the moment that a crash leaves, or its reply,
 /// which changes no history, is the very next event.
@@ -18,6 +19,6 @@ pub fn law_acknowledged()
 
 /// At each moment of a run the history holds every insert that the run has acknowledged.
 pub fn law_held()
-    ensures { (pieces : List (List ℕ)) (history : History) (done left : List Event) → run_events pieces (begins history) ≡ done ++ left
+    ensures { (requests : List Request) (history : History) (done left : List Event) → run_events requests (begins history) ≡ done ++ left
         → All (IsHeld (behind done (begins history)).history) (behind done (begins history)).acknowledged }
 {}

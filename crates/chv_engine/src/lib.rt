@@ -10,16 +10,16 @@ mod damage;
 mod damage_lines;
 mod define;
 mod fault;
+mod form;
 mod insert;
 mod laws;
-mod lex;
 mod opening;
 #[cfg(test)]
 mod opening_tests;
-mod parse;
-mod prefix;
+mod order;
 mod print;
 mod pull;
+mod reading;
 mod run;
 #[cfg(test)]
 mod runs;

@@ -140,11 +140,8 @@ fn read_table<W: Site>(
 {
     match step(alloc, site, log, gate) {
         Ok(GateRead::End { .. }) => Ok(None),
-        Ok(GateRead::Body { payload, next }) => match read_create(&payload) {
-            Some(table) => {
-                let name = Vec::from_slice(alloc, table.name)?;
-                Ok(Some(TableRead { name, next }))
-            }
+        Ok(GateRead::Body { payload, next }) => match read_create(alloc, &payload)? {
+            Some(name) => Ok(Some(TableRead { name, next })),
             None => Err(TableFault::Damaged(Damage::Catalog { at: gate + 1 })),
         },
         Err(fault) => Err(catalog_fault(fault)),

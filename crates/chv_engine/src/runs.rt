@@ -34,7 +34,7 @@ fn run(alloc: Global, site: &mut MemSite, script: &[u8]) -> Result<Status, Alloc
 
 #[test]
 fn each_piece_is_answered(rt: HostRuntime) -> Result<(), Fail> {
-    let cases: [(&[u8], Status, &[u8]); 9] = [
+    let cases: [(&[u8], Status, &[u8]); 12] = [
         (b"", Status::Done, b""),
         (b" ;\n; ", Status::Done, b""),
         (
@@ -60,7 +60,7 @@ fn each_piece_is_answered(rt: HostRuntime) -> Result<(), Fail> {
         (
             b"SELECT * FROM t;\xff\x00",
             Status::SomeRefused,
-            b"@0 Refused 2 UnknownTable\n@0 Refused 16 NotBuilt\n",
+            b"@0 Refused 2 UnknownTable\n@0 Refused 1 Syntax\n",
         ),
         (
             b"CREATE TABLE t (a UInt64) ENGINE = MergeTree ORDER BY a; SELECT * FROM t; SELECT * FROM u",
@@ -71,6 +71,24 @@ fn each_piece_is_answered(rt: HostRuntime) -> Result<(), Fail> {
             b"CREATE TABLE t (a UInt64) ENGINE = MergeTree ORDER BY a; INSERT INTO t VALUES (20); INSERT INTO t VALUES (3); INSERT INTO t VALUES (18446744073709551615); INSERT INTO t VALUES (3); SELECT * FROM t",
             Status::Done,
             b"@0 Ok.\n@0 Ok. 1 written, 0 skipped\n@0 Ok. 1 written, 0 skipped\n@0 Ok. 1 written, 0 skipped\n@0 Ok. 1 written, 0 skipped\n3\n3\n20\n18446744073709551615\n@0 Ok. 4 rows\n",
+        ),
+        // Clients are answered by their numbers, each in the order of the script.
+        (
+            b"@1 INSERT INTO t VALUES (2); CREATE TABLE t (a UInt64) ENGINE = MergeTree ORDER BY a; @1 SELECT * FROM t; @0 INSERT INTO t VALUES (1)",
+            Status::Done,
+            b"@0 Ok.\n@0 Ok. 1 written, 0 skipped\n@1 Ok. 1 written, 0 skipped\n1\n2\n@1 Ok. 2 rows\n",
+        ),
+        // A comment stands before a tag, and a `;` in a comment cuts nothing.
+        (
+            b"CREATE TABLE t (a UInt64) ENGINE = MergeTree ORDER BY a; /* x */ @3 INSERT INTO t VALUES (1) ; -- @2 a; b",
+            Status::Done,
+            b"@0 Ok.\n@3 Ok. 1 written, 0 skipped\n",
+        ),
+        // Client 15 is the last, and another number is no tag.
+        (
+            b"@15 SELECT * FROM t; @16 SELECT * FROM t",
+            Status::SomeRefused,
+            b"@0 Refused 1 Syntax\n@15 Refused 2 UnknownTable\n",
         ),
     ];
     for (script, status, said) in cases {
@@ -163,7 +181,7 @@ fn damage_is_told_and_ends_the_run(rt: HostRuntime) -> Result<(), Fail> {
         // A length past the end, one of 0, and a name that is none.
         (FileId::catalog_log(), 2, b"\x01", b"Damaged catalog at 1\n"),
         (FileId::catalog_log(), 1, b"\0", b"Damaged catalog at 1\n"),
-        (FileId::catalog_log(), 18, b"T", b"Damaged catalog at 1\n"),
+        (FileId::catalog_log(), 18, b"-", b"Damaged catalog at 1\n"),
         // A second frame that is none, another kind of commit, and another part.
         (
             FileId::table_log(1),
@@ -226,11 +244,11 @@ fn other_words_are_refused(rt: HostRuntime) -> Result<(), Fail> {
     Ok(())
 }
 
-// The longest script, and one byte more.
+// The longest script, which is one comment, and one byte more.
 #[test]
 fn a_script_has_at_most_64_mebibytes(rt: HostRuntime) -> Result<(), Fail> {
-    for (spaces, status) in [(67_108_864, Status::Done), (67_108_865, Status::TooLong)] {
-        let script = Vec::from_elem(rt.alloc(), b' ', spaces)?;
+    for (dashes, status) in [(67_108_864, Status::Done), (67_108_865, Status::TooLong)] {
+        let script = Vec::from_elem(rt.alloc(), b'-', dashes)?;
         let mut site = MemSite::new(rt.alloc(), Fails::new(rt.alloc()));
         assert_eq!(rt; run(rt.alloc(), &mut site, &script)?, status);
         assert_eq!(rt; site.said(), b"".as_slice());

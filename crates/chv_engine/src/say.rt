@@ -30,16 +30,16 @@ pub fn reply<W: Site>(site: &mut W, text: &[u8], refuses: bool) -> Result<bool, 
     }
 }
 
-/// Says a refusal to the client 0, and answers true.
-pub fn refuse<W: Site>(site: &mut W, refusal: Refusal) -> Result<bool, RunFault>
-    ensures said { W.tells → OnOk result (W.said site.new ≡ W.said site.old ++ refused_line 0 refusal) }
+/// Says a refusal to a client, and answers true.
+pub fn refuse<W: Site>(site: &mut W, client: u8, refusal: Refusal) -> Result<bool, RunFault>
+    ensures said { W.tells → OnOk result (W.said site.new ≡ W.said site.old ++ refused_line client refusal) }
     ensures refuses { IfOk result (λ answer. answer ≡ true) }
     ensures undamaged { ¬ IsErrOf result RunFault.Damaged }
     ensures files { W.tells → KeepsFiles (W.state site.old) (W.state site.new) }
-    ensures during { W.tells → During W.moment W.left_since site.old site.new (IsLeftSaying (W.state site.old) (W.said site.old) (refused_line 0 refusal)) }
+    ensures during { W.tells → During W.moment W.left_since site.old site.new (IsLeftSaying (W.state site.old) (W.said site.old) (refused_line client refusal)) }
     ensures faults { IsCaused (W.disk_faults site.old) (W.disk_faults site.new) (W.say_faults site.old) (W.say_faults site.new) result }
 {
-    reply(site, line_refused(0, refusal).as_slice(), true)
+    reply(site, line_refused(client, refusal).as_slice(), true)
 }
 
 /// Says the line that tells a damage; the name is that of the damaged table. It answers the fault that ends the run.

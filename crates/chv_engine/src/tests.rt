@@ -1,42 +1,49 @@
-// What scripts and pieces read as.
-use crate::lex::{is_blank, piece_end};
-use crate::parse::{Statement, read_statement};
+// What pieces read as.
+use crate::form::{Form, form_of};
+use crate::reading::read;
 use std::test::Fail;
 
-const ORDERS: Option<Statement<'static>> = Some(Statement::CreateTable {
+const ORDERS: Form<'static> = Form::CreateTable {
     name: b"orders",
     column: b"id",
-});
+};
 
-const SELECT: Option<Statement<'static>> = Some(Statement::SelectAll { table: b"orders" });
+const SELECT: Form<'static> = Form::SelectAll { table: b"orders" };
 
-const A_64: &'static [u8] = b"aaaaaaaaaaaaaaaaaaaaaaaaaaaaaaaaaaaaaaaaaaaaaaaaaaaaaaaaaaaaaaaa";
+const TOO_LARGE: Form<'static> = Form::Insert {
+    table: b"orders",
+    value: None,
+};
 
-fn inserted(value: u64) -> Option<Statement<'static>> {
-    Some(Statement::Insert {
+fn inserted(value: u64) -> Form<'static> {
+    Form::Insert {
         table: b"orders",
-        value,
-    })
+        value: Some(value),
+    }
 }
 
 #[test]
-fn each_form_is_read(rt: HostRuntime) -> Result<(), Fail> {
-    let cases: [(&[u8], Option<Statement<'_>>); 16] = [
+fn each_form_is_read_in_any_spelling(rt: HostRuntime) -> Result<(), Fail> {
+    let cases: [(&[u8], Form<'_>); 26] = [
         (
             b"CREATE TABLE orders (id UInt64) ENGINE = MergeTree ORDER BY id",
             ORDERS,
         ),
         (
-            b"CREATE TABLE orders(id UInt64)ENGINE=MergeTree ORDER BY id",
+            b"create table orders(id UInt64)engine MergeTree()order by(id)",
             ORDERS,
         ),
         (
-            b"\r\n\tCREATE\tTABLE\norders ( id\rUInt64 ) ENGINE= MergeTree ORDER  BY id \n",
+            b"\r\n\tCREATE\tTABLE\norders ( `id`\rUInt64 ) ENGINE= MergeTree ORDER  BY id \n",
+            ORDERS,
+        ),
+        (
+            b"/* ; */ CREATE TABLE -- the orders\n orders (id UInt64) ENGINE = MergeTree ( ) ORDER BY ( id ) /* open",
             ORDERS,
         ),
         (b"INSERT INTO orders VALUES (7)", inserted(7)),
-        (b"INSERT INTO orders VALUES(7)", inserted(7)),
-        (b"\tINSERT\nINTO  orders\r\nVALUES ( 7 )\n", inserted(7)),
+        (b"insert into table orders values(7)", inserted(7)),
+        (b"\tINSERT\nINTO  `orders`\r\nVALUES ( 7 )\n", inserted(7)),
         (b"INSERT INTO orders VALUES (0)", inserted(0)),
         (b"INSERT INTO orders VALUES (007)", inserted(7)),
         (
@@ -47,113 +54,146 @@ fn each_form_is_read(rt: HostRuntime) -> Result<(), Fail> {
             b"INSERT INTO orders VALUES (0018446744073709551615)",
             inserted(18446744073709551615),
         ),
-        // A name of 64 letters, and one of a single letter.
         (
-            b"INSERT INTO aaaaaaaaaaaaaaaaaaaaaaaaaaaaaaaaaaaaaaaaaaaaaaaaaaaaaaaaaaaaaaaa VALUES (1)",
-            Some(Statement::Insert {
-                table: A_64,
-                value: 1,
-            }),
+            b"INSERT INTO orders VALUES (18446744073709551616)",
+            TOO_LARGE,
+        ),
+        (
+            b"INSERT INTO orders VALUES (100000000000000000000)",
+            TOO_LARGE,
+        ),
+        // Settings with the values that they have anyway leave no trace.
+        (
+            b"INSERT INTO orders SETTINGS async_insert = 0, wait_for_async_insert = 1, deduplicate_blocks_in_dependent_materialized_views = 1 VALUES (7)",
+            inserted(7),
+        ),
+        // Of a repeated setting the last value counts.
+        (
+            b"INSERT INTO orders SETTINGS async_insert = 1, async_insert = 0 VALUES (7)",
+            inserted(7),
         ),
         (
             b"INSERT INTO z VALUES (1)",
-            Some(Statement::Insert {
+            Form::Insert {
                 table: b"z",
-                value: 1,
-            }),
+                value: Some(1),
+            },
         ),
-        // Words of the forms that are not reserved are names too, in small letters.
+        // Words that are not reserved are names, and names keep their case.
         (
             b"CREATE TABLE create (into UInt64) ENGINE = MergeTree ORDER BY into",
-            Some(Statement::CreateTable {
+            Form::CreateTable {
                 name: b"create",
                 column: b"into",
-            }),
+            },
         ),
         (
-            b"INSERT INTO selects VALUES (1)",
-            Some(Statement::Insert {
-                table: b"selects",
-                value: 1,
-            }),
+            b"INSERT INTO Table VALUES (1)",
+            Form::Insert {
+                table: b"Table",
+                value: Some(1),
+            },
+        ),
+        (
+            b"INSERT INTO TABLE table VALUES (1)",
+            Form::Insert {
+                table: b"table",
+                value: Some(1),
+            },
+        ),
+        (
+            b"INSERT INTO `Select` VALUES (1)",
+            Form::Insert {
+                table: b"Select",
+                value: Some(1),
+            },
         ),
         (b"SELECT * FROM orders", SELECT),
+        (b"select*from orders", SELECT),
         (b"\n SELECT\t*\r\nFROM  orders ", SELECT),
+        (b"SELECT a FROM orders", Form::Unbuilt),
+        (b"SHOW PARTS orders", Form::Unbuilt),
+        (b"SYSTEM FLUSH ASYNC INSERT QUEUE", Form::Unbuilt),
     ];
-    for (piece, statement) in cases {
-        assert_eq!(rt; read_statement(piece), statement);
+    for (piece, form) in cases {
+        match read(rt.alloc(), piece)? {
+            Some(statement) => assert!(rt; form_of(&statement) == form),
+            None => assert!(rt; false),
+        }
     }
     Ok(())
 }
 
 #[test]
-fn another_piece_has_no_form(rt: HostRuntime) -> Result<(), Fail> {
-    let cases: [&[u8]; 45] = [
+fn other_statements_are_not_built(rt: HostRuntime) -> Result<(), Fail> {
+    let cases: [&[u8]; 27] = [
+        b"CREATE TABLE orders (id UINT64) ENGINE = MergeTree ORDER BY id",
+        b"CREATE TABLE orders (id AggregateFunction(count)) ENGINE = MergeTree ORDER BY id",
+        b"CREATE TABLE orders (id UInt64) ENGINE = AggregatingMergeTree ORDER BY id",
+        b"CREATE TABLE orders (id UInt64) ENGINE = MergeTree ORDER BY other",
+        b"CREATE TABLE orders (id UInt64) ENGINE = MergeTree ORDER BY tuple()",
+        b"CREATE TABLE orders (id UInt64) ENGINE = MergeTree ORDER BY (id, id)",
+        b"CREATE TABLE orders (id UInt64, no UInt64) ENGINE = MergeTree ORDER BY id",
+        b"CREATE TABLE orders (id UInt64) ENGINE = MergeTree ORDER BY id SETTINGS non_replicated_deduplication_window = 0",
+        b"CREATE MATERIALIZED VIEW v TO w AS SELECT * FROM orders",
+        b"INSERT INTO orders (id) VALUES (1)",
+        b"INSERT INTO orders VALUES (1), (2)",
+        b"INSERT INTO orders VALUES (1, 2)",
+        b"INSERT INTO orders VALUES (-1)",
+        b"INSERT INTO orders VALUES ('1')",
+        b"INSERT INTO orders VALUES (TRUE)",
+        b"INSERT INTO orders SETTINGS insert_deduplication_token = '' VALUES (1)",
+        b"INSERT INTO orders SETTINGS async_insert = 1 VALUES (1)",
+        b"INSERT INTO orders SETTINGS wait_for_async_insert = 0 VALUES (1)",
+        b"INSERT INTO orders SETTINGS max_insert_block_size = 65536 VALUES (1)",
+        b"SELECT *, * FROM orders",
+        b"SELECT * FROM orders FINAL",
+        b"SELECT * FROM orders WHERE TRUE",
+        b"SELECT * FROM orders GROUP BY id",
+        b"SELECT * FROM orders ORDER BY id",
+        b"SELECT * FROM orders LIMIT 1",
+        b"SELECT count(*) FROM orders",
+        b"OPTIMIZE TABLE orders FINAL",
+    ];
+    for piece in cases {
+        match read(rt.alloc(), piece)? {
+            Some(statement) => assert!(rt; form_of(&statement) == Form::Unbuilt),
+            None => assert!(rt; false),
+        }
+    }
+    Ok(())
+}
+
+#[test]
+fn another_piece_is_no_statement(rt: HostRuntime) -> Result<(), Fail> {
+    let cases: [&[u8]; 24] = [
         b"",
         b" \t\r\n",
         b"CREATE",
         b"SELECT",
-        // Keywords are written exactly so, and apart.
-        b"create table orders (id UInt64) ENGINE = MergeTree ORDER BY id",
-        b"CREATE Table orders (id UInt64) ENGINE = MergeTree ORDER BY id",
         b"CREATETABLE orders (id UInt64) ENGINE = MergeTree ORDER BY id",
-        b"CREATE TABLE orders (id UINT64) ENGINE = MergeTree ORDER BY id",
         b"CREATE TABLE orders (id UInt64) ENGINE = Mergetree ORDER BY id",
-        b"CREATE TABLE orders (id UInt64) ENGINE = MergeTree ORDERBY id",
-        b"insert INTO orders VALUES (1)",
-        b"INSERT INTO orders values (1)",
-        // The key is the column.
-        b"CREATE TABLE orders (id UInt64) ENGINE = MergeTree ORDER BY other",
-        b"CREATE TABLE orders (id UInt64) ENGINE = MergeTree ORDER BY i",
         b"CREATE TABLE orders (id UInt64) ENGINE = MergeTree ORDER BY",
-        // Signs are all there, and nothing else is.
         b"CREATE TABLE orders (id UInt64 ENGINE = MergeTree ORDER BY id",
         b"CREATE TABLE orders id UInt64 ENGINE = MergeTree ORDER BY id",
-        b"CREATE TABLE orders (id UInt64) ENGINE MergeTree ORDER BY id",
         b"CREATE TABLE orders (id UInt64) ENGINE == MergeTree ORDER BY id",
-        b"CREATE TABLE orders (id UInt64, no UInt64) ENGINE = MergeTree ORDER BY id",
         b"CREATE TABLE orders (id UInt64) ENGINE = MergeTree ORDER BY id id",
         b"INSERT INTO orders VALUES (1",
         b"INSERT INTO orders VALUES ()",
         b"INSERT INTO orders VALUES 1",
         b"INSERT INTO orders VALUES (1) (2)",
         b"INSERT INTO orders VALUES (1) again",
-        // Names have 1 to 64 small letters, and none is reserved.
         b"INSERT INTO select VALUES (1)",
-        b"CREATE TABLE orders (values UInt64) ENGINE = MergeTree ORDER BY values",
-        b"INSERT INTO Orders VALUES (1)",
-        b"INSERT INTO orders2 VALUES (1)",
-        b"INSERT INTO `orders` VALUES (1)",
         b"INSERT INTO aaaaaaaaaaaaaaaaaaaaaaaaaaaaaaaaaaaaaaaaaaaaaaaaaaaaaaaaaaaaaaaaa VALUES (1)",
-        // Numbers have digits alone, and 64 bits.
-        b"INSERT INTO orders VALUES (18446744073709551616)",
-        b"INSERT INTO orders VALUES (100000000000000000000)",
-        b"INSERT INTO orders VALUES (-1)",
         b"INSERT INTO orders VALUES (+1)",
         b"INSERT INTO orders VALUES (1.0)",
-        b"INSERT INTO orders VALUES (1 2)",
-        // All columns of one table, and the star stands apart.
-        b"SELECT *FROM orders",
-        b"SELECT* FROM orders",
+        b"INSERT INTO orders VALUES ('1)",
         b"SELECT (*) FROM orders",
-        b"SELECT id FROM orders",
-        b"SELECT * FROM",
         b"SELECT * FROM orders orders",
-        b"select * from orders",
+        b"@16 SELECT * FROM orders",
     ];
     for piece in cases {
-        assert_eq!(rt; read_statement(piece), None);
-    }
-    Ok(())
-}
-
-// The pieces of `a;; \n;'b` are `a`, the empty piece, white space and `'b`.
-#[test]
-fn a_script_is_cut_at_each_semicolon(rt: HostRuntime) -> Result<(), Fail> {
-    let script = b"a;; \n;'b";
-    for (at, end, blank) in [(0, 1, false), (2, 2, true), (3, 5, true), (6, 8, false)] {
-        assert_eq!(rt; piece_end(script, at), end);
-        assert_eq!(rt; is_blank(&script[at..end]), blank);
+        assert!(rt; read(rt.alloc(), piece)?.is_none());
     }
     Ok(())
 }

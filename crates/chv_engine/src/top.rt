@@ -7,7 +7,7 @@ ghost use Rattle.chv_engine.specs.Damage.{IsOpeningDamaged, MeetsDamage};
 ghost use Rattle.chv_engine.specs.Ends.{IfEnded, EndsWithoutFault, HasCause, SaysDamage, AnswersDamage, PulledAs, LeavesSite};
 ghost use Rattle.chv_engine.specs.Histories.{History, Settles};
 ghost use Rattle.chv_engine.specs.Runs.{begins, run_events};
-ghost use Rattle.chv_engine.specs.Script.{pieces_of};
+ghost use Rattle.chv_engine.specs.Script.{requests_of};
 ghost use Rattle.chv_engine.specs.Stores.{EndsAt};
 ghost use Rattle.chv_engine.specs.Words.{run_words};
 
@@ -39,13 +39,13 @@ pub fn chviews<S: Source, W: Site>(
         → ¬ HasRisen (W.say_faults site.old) (W.say_faults site.new) → EndsWithoutFault result }
     // A run that comes to its end has read the whole script.
     ensures whole { S.tells → IfEnded result (λ refused. S.left source.new ≡ []) }
-    // It has said the replies of all pieces, and the files stand for the history behind its events.
+    // It has said the replies to all requests, and the files stand for the history behind its events.
     ensures ended { S.tells → W.tells → (history : History) → Settles (W.state site.old) history
-        → IfEnded result (EndsAt (pieces_of (S.left source.old)) history (W.state site.new) (W.said site.old) (W.said site.new)) }
+        → IfEnded result (EndsAt (requests_of (S.left source.old)) history (W.state site.new) (W.said site.old) (W.said site.new)) }
     // At any moment since the call began, whatever a crash leaves: the files stand for the history behind some of the run's
     // events, and the text is the one behind them, or goes on by a front of what the next event says.
     ensures during { S.tells → W.tells → (history : History) → Settles (W.state site.old) history → During W.moment W.left_since site.old site.new
-        (IsLeftBy (run_events (pieces_of (S.left source.old)) (begins history)) (W.said site.old) (begins history)) }
+        (IsLeftBy (run_events (requests_of (S.left source.old)) (begins history)) (W.said site.old) (begins history)) }
     // Damage is told only where a file is damaged, by the last line that was said, and never where the files stand for a history.
     ensures damaged { W.tells → result ≡ Status.Damaged
         → SaysDamage (λ f. (W.state site.old f).bytes) (λ f. (W.state site.new f).bytes) (W.said site.new) }
@@ -54,7 +54,7 @@ pub fn chviews<S: Source, W: Site>(
     ensures meets { words.now ≡ run_words → S.tells → W.tells → length (S.left source.old) ≤ 2 ^ 26
         → ¬ HasRisen (S.faults source.old) (S.faults source.new) → ¬ HasRisen (W.disk_faults site.old) (W.disk_faults site.new)
         → ¬ HasRisen (W.say_faults site.old) (W.say_faults site.new) → (line : List ℕ)
-        → IsOpeningDamaged (λ f. (W.state site.old f).bytes) line ⊎ MeetsDamage (λ f. (W.state site.old f).bytes) (pieces_of (S.left source.old)) line
+        → IsOpeningDamaged (λ f. (W.state site.old f).bytes) line ⊎ MeetsDamage (λ f. (W.state site.old f).bytes) (requests_of (S.left source.old)) line
         → AnswersDamage result (W.said site.old) (W.said site.new) line }
 {
     match read_words(words) {
@@ -74,16 +74,16 @@ fn run<S: Source, W: Site>(alloc: Global, source: &mut S, site: &mut W) -> Statu
         → ¬ HasRisen (W.say_faults site.old) (W.say_faults site.new) → EndsWithoutFault result }
     ensures whole { S.tells → IfEnded result (λ refused. S.left source.new ≡ []) }
     ensures ended { S.tells → W.tells → (history : History) → Settles (W.state site.old) history
-        → IfEnded result (EndsAt (pieces_of (S.left source.old)) history (W.state site.new) (W.said site.old) (W.said site.new)) }
+        → IfEnded result (EndsAt (requests_of (S.left source.old)) history (W.state site.new) (W.said site.old) (W.said site.new)) }
     ensures during { S.tells → W.tells → (history : History) → Settles (W.state site.old) history → During W.moment W.left_since site.old site.new
-        (IsLeftBy (run_events (pieces_of (S.left source.old)) (begins history)) (W.said site.old) (begins history)) }
+        (IsLeftBy (run_events (requests_of (S.left source.old)) (begins history)) (W.said site.old) (begins history)) }
     ensures damaged { W.tells → result ≡ Status.Damaged
         → SaysDamage (λ f. (W.state site.old f).bytes) (λ f. (W.state site.new f).bytes) (W.said site.new) }
     ensures undamaged { W.tells → (history : History) → Settles (W.state site.old) history → result ≢ Status.Damaged }
     ensures meets { S.tells → W.tells → length (S.left source.old) ≤ 2 ^ 26
         → ¬ HasRisen (S.faults source.old) (S.faults source.new) → ¬ HasRisen (W.disk_faults site.old) (W.disk_faults site.new)
         → ¬ HasRisen (W.say_faults site.old) (W.say_faults site.new) → (line : List ℕ)
-        → IsOpeningDamaged (λ f. (W.state site.old f).bytes) line ⊎ MeetsDamage (λ f. (W.state site.old f).bytes) (pieces_of (S.left source.old)) line
+        → IsOpeningDamaged (λ f. (W.state site.old f).bytes) line ⊎ MeetsDamage (λ f. (W.state site.old f).bytes) (requests_of (S.left source.old)) line
         → AnswersDamage result (W.said site.old) (W.said site.new) line }
 {
     match pull_script(alloc, source) {

@@ -5,5 +5,5 @@ use Rattle.chv_engine.proofs.AcknowledgedLemmas.{holding_behind, holding_none}
 use Rattle.chv_engine.proofs.laws.law_held.Goals as goal
 
 pub returns : goal.returns
-returns c = λ pieces history done left split.
-    holding_behind pieces (begins history) done left (holding_none (begins history) refl) split
+returns c = λ requests history done left split.
+    holding_behind requests (begins history) done left (holding_none (begins history) refl) split

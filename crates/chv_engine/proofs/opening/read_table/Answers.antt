@@ -6,21 +6,20 @@ use Rattle.chv_engine.proofs.opening.read_table.Goals as goal
 pub returns-in-Some-clause-read : goal.returns-in-Some-clause-read
 returns-in-Some-clause-read g c tells =
     let read = rw c.in-Ok-Body.field-0-is at (c.in-Ok-Body.ensures.read tells) in
-    let names = c.in-Some.ensures.names in
-    let text = sym c.deref.ensures.value ∙ c.in-Some.ensures.some in (
-      record { name = c.in-Some.table.name.now; column = c.in-Some.table.column.now },
-      record { name = names.0; column = names.1 },
-      c.in_ok-name-in-Some.ensures.items,
+    let made = rw c.in-Some.is at c.in_ok-name-in-Ok-Body.ensures.some in (
+      made.0,
+      made.1,
+      made.2,
       read.0,
-      subst (λ (l : List ℕ). IsFollowed c.args.gate l c.in-Ok-Body.next (g.W.Site.state c.args.site.now c.args.log).bytes) text read.1,
+      subst (λ (l : List ℕ). IsFollowed c.args.gate l c.in-Ok-Body.next (g.W.Site.state c.args.site.now c.args.log).bytes) (sym c.deref.ensures.value ∙ made.3) read.1,
     )
 
 pub returns-in-Ok-Body-clause-damaged : goal.returns-in-Ok-Body-clause-damaged
 returns-in-Ok-Body-clause-damaged g c tells damage is =
     let read = rw c.in-Ok-Body.field-0-is at (c.in-Ok-Body.ensures.read tells) in
     let file = (g.W.Site.state c.args.site.now c.args.log).bytes in
+    let none = rw c.in-None.is at c.in_ok-name-in-Ok-Body.ensures.none in
     let told : damage ≡ _ = cc in (
       told,
-      no_table c.args.gate file c.in-Ok-Body.payload.items c.in-Ok-Body.next read
-          (λ name column right_name right_column same. c.in-None.ensures.none name column right_name right_column (c.deref.ensures.value ∙ same)),
+      no_table c.args.gate file c.in-Ok-Body.payload.items c.in-Ok-Body.next read (λ def lawful same. none def lawful (c.deref.ensures.value ∙ same)),
     )

@@ -1,24 +1,28 @@
--- The store is opened, and each piece is answered.
-use Rattle.std.proofs.Common.{◌≡◌, ◌++◌, inl, inr, ℕ, List, Bool, sym, ap, subst, ◌∙◌}
+-- The store is opened, and each request is answered.
+use Rattle.std.proofs.Common.{◌≡◌, ◌++◌, inl, inr, ℕ, List, Bool, IfOk, sym, ap, subst, ◌∙◌}
 use Rattle.std.proofs.lemmas.List.{append-nil}
 use Rattle.chv_site.specs.declared.file_id.FileId.{FileId}
 use Rattle.chv_site.specs.Files.{FileState}
-use Rattle.chv_site.proofs.Moments.{weakened, goes_on}
+use Rattle.chv_site.specs.Images.{Image}
+use Rattle.chv_site.specs.During.{During}
+use Rattle.chv_site.proofs.Moments.{started, weakened, goes_on}
 use Rattle.chv_engine.specs.Crashes.{StandsWith, IsLeftBy}
-use Rattle.chv_engine.specs.Damage.{Files, IsOpeningDamaged}
+use Rattle.chv_engine.specs.Damage.{Files, IsOpeningDamaged, first_statement}
 use Rattle.chv_engine.specs.DamageLines.{damage_line}
 use Rattle.chv_engine.specs.Histories.{History}
 use Rattle.chv_engine.specs.Meets.{TellsOrFails}
 use Rattle.chv_engine.specs.Openings.{IsDamageOf, IsOpeningDamage}
 use Rattle.chv_engine.specs.Runs.{Moment, begins, behind, run_events}
-use Rattle.chv_engine.specs.Script.{pieces_of}
+use Rattle.chv_engine.specs.Script.{Request, from_client, requests_in, requests_of}
 use Rattle.chv_engine.specs.Stores.{IsWithin, Holds, IsAt, AnswersAs, EndsAt}
 use Rattle.chv_engine.specs.declared.opening.OpenFault.{OpenFault}
 use Rattle.chv_engine.specs.declared.store.Store.{Store}
 use Rattle.chv_engine.proofs.LeftLemmas.{left_still}
 use Rattle.chv_engine.proofs.MeetsLemmas.{fails_or_tells}
 use Rattle.chv_engine.proofs.OpeningLemmas.{damage_told, opening_line_unique, meets_undamaged, opened_undamaged, settled_undamaged, meets_part}
+use Rattle.chv_engine.proofs.OrderLemmas.{requests_of-pieces}
 use Rattle.chv_engine.proofs.ResultLemmas.{if_ok_with}
+use Rattle.chv_engine.proofs.StandingLemmas.{untouched_left}
 use Rattle.chv_engine.proofs.StoreLemmas.{stands_for}
 use Rattle.chv_engine.proofs.run.run_script.Goals as goal
 
@@ -32,19 +36,21 @@ returns-in-Ok-clause-ended g c = λ tells history settles.
     let site = c.args.site.now in
     let mid = c.open_store.new.site in
     let now = c.answer_all.new.site in
-    let pieces = pieces_of c.args.script.now in
+    let all = requests_in c.args.script.now (from_client 0 c.as_slice.result.now) in
+    let same : all ≡ requests_of c.args.script.now = requests_of-pieces c.args.script.now c.as_slice.result.now (c.as_slice.ensures ∙ c.in_ok-pieces.ensures.cut) in
     let start = begins_at c.in-Ok.store (S.state mid) history (S.said site) (S.said mid) (c.in-Ok.ensures.holds tells history settles) (c.in-Ok.ensures.said tells) in
     let Answers : Bool → Type 0 = λ refused. (before : List ℕ) (m : Moment) → IsAt c.in-Ok.store (S.state mid) (S.said mid) before m
-    → AnswersAs c.answer_all.new.self (S.state now) (S.said now) before refused (run_events pieces m) m in
-    if_ok_with c.answer_all.result (IsWithin c.answer_all.new.self) Answers (EndsAt pieces history (S.state now) (S.said site) (S.said now))
+    → AnswersAs c.answer_all.new.self (S.state now) (S.said now) before refused (run_events all m) m in
+    subst (λ (requests : List Request). IfOk c.answer_all.result (EndsAt requests history (S.state now) (S.said site) (S.said now))) same
+    (if_ok_with c.answer_all.result (IsWithin c.answer_all.new.self) Answers (EndsAt all history (S.state now) (S.said site) (S.said now))
     (λ refused within answers.
     let end = answers (S.said site) (begins history) start in
     record {
       text = end.at.text;
-      stands = stands_for c.answer_all.new.self (S.state now) (behind (run_events pieces (begins history)) (begins history)).history within end.at.holds (g.met.W.Site.reads now);
+      stands = stands_for c.answer_all.new.self (S.state now) (behind (run_events all (begins history)) (begins history)).history within end.at.holds (g.met.W.Site.reads now);
       mark = end.mark;
     })
-    c.answer_all.ensures.within (c.answer_all.ensures.answered tells)
+    c.answer_all.ensures.within (c.answer_all.ensures.answered tells))
 
 pub returns-in-Ok-clause-during : goal.returns-in-Ok-clause-during
 returns-in-Ok-clause-during g c = λ tells history settles.
@@ -52,14 +58,17 @@ returns-in-Ok-clause-during g c = λ tells history settles.
     let site = c.args.site.now in
     let mid = c.open_store.new.site in
     let now = c.answer_all.new.site in
-    let events = run_events (pieces_of c.args.script.now) (begins history) in
+    let all = requests_in c.args.script.now (from_client 0 c.as_slice.result.now) in
+    let same : all ≡ requests_of c.args.script.now = requests_of-pieces c.args.script.now c.as_slice.result.now (c.as_slice.ensures ∙ c.in_ok-pieces.ensures.cut) in
+    let events = run_events all (begins history) in
     let P = IsLeftBy events (S.said site) (begins history) in
     let start = begins_at c.in-Ok.store (S.state mid) history (S.said site) (S.said mid) (c.in-Ok.ensures.holds tells history settles) (c.in-Ok.ensures.said tells) in
-    goes_on S.moment S.left_since site mid now P P
+    subst (λ (requests : List Request). During S.moment S.left_since site now (IsLeftBy (run_events requests (begins history)) (S.said site) (begins history))) same
+    (goes_on S.moment S.left_since site mid now P P
     (weakened S.moment S.left_since site mid (StandsWith history (S.said site)) P (c.in-Ok.ensures.during tells history settles)
     (λ image text left. left_still events (S.said site) (begins history) image text left.stands (left.text_left ∙ sym (append-nil (S.said site)))))
     (c.answer_all.ensures.during tells (S.said site) (begins history) start)
-    (λ image text left. left)
+    (λ image text left. left))
 
 pub returns-in-Ok-clause-undamaged : goal.returns-in-Ok-clause-undamaged
 returns-in-Ok-clause-undamaged g c = λ tells history settles.
@@ -75,13 +84,14 @@ returns-in-Ok-clause-meets g c = λ tells line damaged.
     let site = c.args.site.now in
     let mid = c.open_store.new.site in
     let now = c.answer_all.new.site in
+    let same = requests_of-pieces c.args.script.now c.as_slice.result.now (c.as_slice.ensures ∙ c.in_ok-pieces.ensures.cut) in
     let old : Files = λ f. (S.state site f).bytes in
     let new : Files = λ f. (S.state mid f).bytes in
     elim damaged as (λ _. TellsOrFails c.answer_all.result (S.said site) (S.said now) line) [
       | inl opening ↦ absurd (opened_undamaged c.in-Ok.store old new line (c.in-Ok.ensures.opened tells) opening)
       | inr meets ↦
           subst (λ (said : List ℕ). TellsOrFails c.answer_all.result said (S.said now) line) (c.in-Ok.ensures.said tells)
-          (c.answer_all.ensures.meets tells meets.def.name line meets.first (meets_part c.in-Ok.store old new (pieces_of c.args.script.now) line (c.in-Ok.ensures.opened tells) meets))
+          (c.answer_all.ensures.meets tells meets.def.name line (ap first_statement same ∙ meets.first) (meets_part c.in-Ok.store old new (requests_of c.args.script.now) line (c.in-Ok.ensures.opened tells) meets))
     ]
 
 -- a log is damaged
@@ -118,5 +128,34 @@ returns-in-Err-Damaged-clause-meets g c = λ tells line damaged.
           ∙ ap (λ (said : List ℕ). said ++ damage_line damage c.deref.result.now) (c.in-Err-Damaged.ensures.said tells)
           ∙ ap (λ (n : List ℕ). S.said site ++ damage_line damage n) c.deref.ensures.value
           ∙ ap (λ (l : List ℕ). S.said site ++ l) (opening_line_unique files (damage_line damage name) line told opening))
-      | inr meets ↦ absurd (meets_undamaged files (pieces_of c.args.script.now) line (damage_line damage name) meets told)
+      | inr meets ↦ absurd (meets_undamaged files (requests_of c.args.script.now) line (damage_line damage name) meets told)
     ]
+
+-- the store was not opened
+opening_left : (requests : List Request) (history : History) (said : List ℕ) (image : Image) (text : List ℕ) → StandsWith history said image text → IsLeftBy (run_events requests (begins history)) said (begins history) image text
+opening_left requests history said image text left = left_still (run_events requests (begins history)) said (begins history) image text left.stands (left.text_left ∙ sym (append-nil said))
+
+pub returns-in-Err-Failed-clause-during : goal.returns-in-Err-Failed-clause-during
+returns-in-Err-Failed-clause-during g c = λ tells history settles.
+    let S = g.W.Site in
+    let site = c.args.site.now in
+    let requests = requests_of c.args.script.now in
+    weakened S.moment S.left_since site c.open_store.new.site (StandsWith history (S.said site)) (IsLeftBy (run_events requests (begins history)) (S.said site) (begins history))
+    (c.in-Err-Failed.ensures.during tells history settles) (opening_left requests history (S.said site))
+
+pub returns-clause-during : goal.returns-clause-during
+returns-clause-during g c = λ tells history settles.
+    let S = g.W.Site in
+    let site = c.args.site.now in
+    let requests = requests_of c.args.script.now in
+    weakened S.moment S.left_since site c.open_store.new.site (StandsWith history (S.said site)) (IsLeftBy (run_events requests (begins history)) (S.said site) (begins history))
+    (c.open_store.ensures.during tells history settles) (opening_left requests history (S.said site))
+
+-- the script was not cut
+pub returns-in_err-pieces-clause-during : goal.returns-in_err-pieces-clause-during
+returns-in_err-pieces-clause-during g c = λ tells history settles.
+    let S = g.W.Site in
+    let site = c.args.site.now in
+    let events = run_events (requests_of c.args.script.now) (begins history) in
+    started S.moment S.left_since site (IsLeftBy events (S.said site) (begins history))
+    (λ image text left. untouched_left history (S.state site) (S.said site) events image text settles (g.met.W.Site.only_now site image text left))

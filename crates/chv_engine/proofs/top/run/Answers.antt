@@ -5,14 +5,14 @@ use Rattle.chv_engine.specs.Crashes.{IsLeftBy}
 use Rattle.chv_engine.specs.Damage.{Files, IsOpeningDamaged, MeetsDamage}
 use Rattle.chv_engine.specs.Meets.{TellsOrFails}
 use Rattle.chv_engine.specs.Runs.{begins, run_events}
-use Rattle.chv_engine.specs.Script.{pieces_of}
+use Rattle.chv_engine.specs.Script.{requests_of}
 use Rattle.chv_engine.specs.declared.fault.RunFault.{RunFault}
 use Rattle.chv_engine.proofs.StandingLemmas.{untouched_left}
 use Rattle.chv_engine.proofs.top.run.Goals as goal
 
 -- damage that a script meets
 abbrev Meets : Files → List ℕ → List ℕ → Type 0
-Meets files line script = IsOpeningDamaged files line ⊎ MeetsDamage files (pieces_of script) line
+Meets files line script = IsOpeningDamaged files line ⊎ MeetsDamage files (requests_of script) line
 
 pub returns-in-Ok-true-clause-meets : goal.returns-in-Ok-true-clause-meets
 returns-in-Ok-true-clause-meets g c = λ tells told short calm_source calm_disk calm_say line damaged.
@@ -38,7 +38,7 @@ pub returns-in-Err-Failed-clause-during : goal.returns-in-Err-Failed-clause-duri
 returns-in-Err-Failed-clause-during g c = λ tells told history settles.
     let S = g.W.Site in
     let site = c.args.site.now in
-    let events = run_events (pieces_of (g.S.Source.left c.args.source.now)) (begins history) in
+    let events = run_events (requests_of (g.S.Source.left c.args.source.now)) (begins history) in
     started S.moment S.left_since site (IsLeftBy events (S.said site) (begins history))
     (λ image text left. untouched_left history (S.state site) (S.said site) events image text settles (g.met.W.Site.only_now site image text left))
 
@@ -46,7 +46,7 @@ pub returns-in-Err-TooLong-clause-during : goal.returns-in-Err-TooLong-clause-du
 returns-in-Err-TooLong-clause-during g c = λ tells told history settles.
     let S = g.W.Site in
     let site = c.args.site.now in
-    let events = run_events (pieces_of (g.S.Source.left c.args.source.now)) (begins history) in
+    let events = run_events (requests_of (g.S.Source.left c.args.source.now)) (begins history) in
     started S.moment S.left_since site (IsLeftBy events (S.said site) (begins history))
     (λ image text left. untouched_left history (S.state site) (S.said site) events image text settles (g.met.W.Site.only_now site image text left))
 
@@ -54,6 +54,6 @@ pub returns-clause-during : goal.returns-clause-during
 returns-clause-during g c = λ tells told history settles.
     let S = g.W.Site in
     let site = c.args.site.now in
-    let events = run_events (pieces_of (g.S.Source.left c.args.source.now)) (begins history) in
+    let events = run_events (requests_of (g.S.Source.left c.args.source.now)) (begins history) in
     started S.moment S.left_since site (IsLeftBy events (S.said site) (begins history))
     (λ image text left. untouched_left history (S.state site) (S.said site) events image text settles (g.met.W.Site.only_now site image text left))

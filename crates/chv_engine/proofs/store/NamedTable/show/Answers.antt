@@ -18,12 +18,12 @@ returns-in_ok-shown_text-in-Ok-clause-during g c = λ tells book held.
     let site = c.args.site.now in
     let mid = c.rows.new.site in
     let rows = c.in-Ok.rows.items in
-    let text : c.deref-in-Ok.result.now ≡ shown_text book =
+    let text : c.deref-in-Ok.result.now ≡ shown_text c.args.client book =
     c.deref-in-Ok.ensures.value ∙ c.in_ok-shown_text-in-Ok.ensures
-    ∙ ap (λ (l : List ℕ). rows_text (rows_of l) ++ rows_line 0 (length l)) c.deref.ensures.value
-    ∙ ap (λ (n : ℕ). rows_text (rows_of rows) ++ rows_line 0 n) (sym (length-map rows (λ (value : ℕ). value ∷ [])))
-    ∙ ap (λ (l : List (List ℕ)). rows_text l ++ rows_line 0 (length l)) (c.in-Ok.ensures.rows tells book held) in
-    reads_then_says S.moment S.left_since site mid c.reply.new.site (S.state site) (S.state mid) (S.said site) (S.said mid) (shown_text book)
+    ∙ ap (λ (l : List ℕ). rows_text (rows_of l) ++ rows_line c.args.client (length l)) c.deref.ensures.value
+    ∙ ap (λ (n : ℕ). rows_text (rows_of rows) ++ rows_line c.args.client n) (sym (length-map rows (λ (value : ℕ). value ∷ [])))
+    ∙ ap (λ (l : List (List ℕ)). rows_text l ++ rows_line c.args.client (length l)) (c.in-Ok.ensures.rows tells book held) in
+    reads_then_says S.moment S.left_since site mid c.reply.new.site (S.state site) (S.state mid) (S.said site) (S.said mid) (shown_text c.args.client book)
     (c.in-Ok.ensures.during tells) (c.in-Ok.ensures.files tells) (c.in-Ok.ensures.said tells)
     (subst (λ (line : List ℕ). During S.moment S.left_since mid c.reply.new.site (IsLeftSaying (S.state mid) (S.said mid) line)) text (c.reply.ensures.during tells))
 

@@ -15,7 +15,7 @@ returns-in_err-create_table-clause-during g c = λ tells before m at.
     let S = g.W.Site in
     let site = c.args.site.now in
     let def : TableDef = record { name = c.args.name.now; column = c.args.column.now } in
-    created_during S.moment S.left_since site c.create_table.new.site def (Replied (ok_line 0) [] false ∷ []) (S.said site) before m at.text (c.in_err-create_table.ensures.during tells m.history at.holds)
+    created_during S.moment S.left_since site c.create_table.new.site def (Replied (ok_line c.args.client) [] false ∷ []) (S.said site) before m at.text (c.in_err-create_table.ensures.during tells m.history at.holds)
 
 pub returns-clause-answered : goal.returns-clause-answered
 returns-clause-answered g c = λ tells.
@@ -26,10 +26,10 @@ returns-clause-answered g c = λ tells.
     let new = c.create_table.new.self in
     let def : TableDef = record { name = c.args.name.now; column = c.args.column.now } in
     if_ok_is c.reply.result (S.said now ≡ S.said mid ++ c.as_slice.result.now) false
-    (λ refused. (before : List ℕ) (m : Moment) → IsAt c.args.self.now (S.state site) (S.said site) before m → AnswersAs new (S.state now) (S.said now) before refused (create_first [] def) m)
+    (λ refused. (before : List ℕ) (m : Moment) → IsAt c.args.self.now (S.state site) (S.said site) before m → AnswersAs new (S.state now) (S.said now) before refused (create_first c.args.client [] def) m)
     (λ added before m at.
     let made : IsAt new (S.state mid) (S.said mid) before (happen (Created def) m) = record { holds = c.in_ok-create_table.ensures.created tells m.history at.holds; text = c.in_ok-create_table.ensures.said tells ∙ at.text } in
-    let answers = replied_at new (S.state mid) (S.state now) (S.said mid) (S.said now) before (ok_line 0) [] false (happen (Created def) m) c.in_ok-create_table.ensures.within made (c.reply.ensures.files tells)
+    let answers = replied_at new (S.state mid) (S.state now) (S.said mid) (S.said now) before (ok_line c.args.client) [] false (happen (Created def) m) c.in_ok-create_table.ensures.within made (c.reply.ensures.files tells)
     (added ∙ ap (λ (l : List ℕ). S.said mid ++ l) (c.as_slice.ensures.bytes ∙ c.line_ok.ensures)) in
     record { at = answers.at; mark = answers.mark })
     (c.reply.ensures.said tells) c.reply.ensures.refuses
@@ -42,6 +42,6 @@ returns-clause-during g c = λ tells before m at.
     let new = c.create_table.new.self in
     let def : TableDef = record { name = c.args.name.now; column = c.args.column.now } in
     let made : IsAt new (S.state mid) (S.said mid) before (happen (Created def) m) = record { holds = c.in_ok-create_table.ensures.created tells m.history at.holds; text = c.in_ok-create_table.ensures.said tells ∙ at.text } in
-    then_reply_during S.moment S.left_since site mid c.reply.new.site new (S.state mid) (Created def) (S.said mid) before (ok_line 0) [] false m c.in_ok-create_table.ensures.within made
-    (created_during S.moment S.left_since site mid def (Replied (ok_line 0) [] false ∷ []) (S.said site) before m at.text (c.in_ok-create_table.ensures.during tells m.history at.holds))
+    then_reply_during S.moment S.left_since site mid c.reply.new.site new (S.state mid) (Created def) (S.said mid) before (ok_line c.args.client) [] false m c.in_ok-create_table.ensures.within made
+    (created_during S.moment S.left_since site mid def (Replied (ok_line c.args.client) [] false ∷ []) (S.said site) before m at.text (c.in_ok-create_table.ensures.during tells m.history at.holds))
     (subst (λ (line : List ℕ). During S.moment S.left_since mid c.reply.new.site (IsLeftSaying (S.state mid) (S.said mid) line)) (c.as_slice.ensures.bytes ∙ c.line_ok.ensures) (c.reply.ensures.during tells))

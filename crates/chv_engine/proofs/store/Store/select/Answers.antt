@@ -29,13 +29,13 @@ returns-in-Some-clause-answered g c = λ tells.
     let self = c.args.self.now in
     let name = c.args.name.now in
     let named = c.in-Some.named in
-    if_ok_is c.show.result ((book : Book) → HoldsBook named.table (S.state site) book → S.said now ≡ S.said site ++ shown_text book) false
-    (λ refused. (before : List ℕ) (m : Moment) → IsAt self (S.state site) (S.said site) before m → AnswersAs self (S.state now) (S.said now) before refused (select_known (table_named name m.history.schema) m.history) m)
+    if_ok_is c.show.result ((book : Book) → HoldsBook named.table (S.state site) book → S.said now ≡ S.said site ++ shown_text c.args.client book) false
+    (λ refused. (before : List ℕ) (m : Moment) → IsAt self (S.state site) (S.said site) before m → AnswersAs self (S.state now) (S.said now) before refused (select_known c.args.client (table_named name m.history.schema) m.history) m)
     (λ shown before m at.
     let tables = named_holds self (S.state site) m.history named at.holds c.in-Some.is in
     let taken = same_name self (S.state site) m.history name named at.holds c.in-Some.is (sym c.is_named.ensures ∙ c.if-is_named.true) in
-    subst (λ (t : Option ℕ). AnswersAs self (S.state now) (S.said now) before false (select_known t m.history) m) (sym taken)
-    (replied_at self (S.state site) (S.state now) (S.said site) (S.said now) before (shown_text (m.history.books 1)) [] false m c.requires.within at (c.show.ensures.files tells) (shown (m.history.books 1) tables.2)))
+    subst (λ (t : Option ℕ). AnswersAs self (S.state now) (S.said now) before false (select_known c.args.client t m.history) m) (sym taken)
+    (replied_at self (S.state site) (S.state now) (S.said site) (S.said now) before (shown_text c.args.client (m.history.books 1)) [] false m c.requires.within at (c.show.ensures.files tells) (shown (m.history.books 1) tables.2)))
     (c.show.ensures.shown tells) c.show.ensures.answer
 
 pub returns-in-Some-clause-during : goal.returns-in-Some-clause-during
@@ -47,8 +47,8 @@ returns-in-Some-clause-during g c = λ tells before m at.
     let named = c.in-Some.named in
     let tables = named_holds self (S.state site) m.history named at.holds c.in-Some.is in
     let taken = same_name self (S.state site) m.history name named at.holds c.in-Some.is (sym c.is_named.ensures ∙ c.if-is_named.true) in
-    subst (λ (t : Option ℕ). During S.moment S.left_since site c.show.new.site (IsLeftBy (select_known t m.history) before m)) (sym taken)
-    (reply_during S.moment S.left_since site c.show.new.site self (S.state site) (S.said site) before (shown_text (m.history.books 1)) [] false m c.requires.within at (c.show.ensures.during tells (m.history.books 1) tables.2))
+    subst (λ (t : Option ℕ). During S.moment S.left_since site c.show.new.site (IsLeftBy (select_known c.args.client t m.history) before m)) (sym taken)
+    (reply_during S.moment S.left_since site c.show.new.site self (S.state site) (S.said site) before (shown_text c.args.client (m.history.books 1)) [] false m c.requires.within at (c.show.ensures.during tells (m.history.books 1) tables.2))
 
 pub returns-in-Some-clause-damaged : goal.returns-in-Some-clause-damaged
 returns-in-Some-clause-damaged g c = λ tells is.
@@ -108,12 +108,12 @@ returns-in_default-clause-answered g c = λ tells.
     let now = c.refuse.new.site in
     let self = c.args.self.now in
     let name = c.args.name.now in
-    if_ok_is c.refuse.result (S.said now ≡ S.said site ++ refused_line 0 UnknownTable) true
-    (λ refused. (before : List ℕ) (m : Moment) → IsAt self (S.state site) (S.said site) before m → AnswersAs self (S.state now) (S.said now) before refused (select_known (table_named name m.history.schema) m.history) m)
+    if_ok_is c.refuse.result (S.said now ≡ S.said site ++ refused_line c.args.client UnknownTable) true
+    (λ refused. (before : List ℕ) (m : Moment) → IsAt self (S.state site) (S.said site) before m → AnswersAs self (S.state now) (S.said now) before refused (select_known c.args.client (table_named name m.history.schema) m.history) m)
     (λ added before m at.
-    let unknown : table_named name m.history.schema ≡ None → AnswersAs self (S.state now) (S.said now) before true (select_known (table_named name m.history.schema) m.history) m =
-    λ free. subst (λ (t : Option ℕ). AnswersAs self (S.state now) (S.said now) before true (select_known t m.history) m) (sym free)
-    (replied_at self (S.state site) (S.state now) (S.said site) (S.said now) before (refused_line 0 UnknownTable) [] true m c.requires.within at (c.refuse.ensures.files tells) added) in
+    let unknown : table_named name m.history.schema ≡ None → AnswersAs self (S.state now) (S.said now) before true (select_known c.args.client (table_named name m.history.schema) m.history) m =
+    λ free. subst (λ (t : Option ℕ). AnswersAs self (S.state now) (S.said now) before true (select_known c.args.client t m.history) m) (sym free)
+    (replied_at self (S.state site) (S.state now) (S.said site) (S.said now) before (refused_line c.args.client UnknownTable) [] true m c.requires.within at (c.refuse.ensures.files tells) added) in
     elim c.in_default.branch [
       | in_default-via-in-Some+else-is_named w ↦ unknown (other_name self (S.state site) m.history name w.in-Some.named at.holds w.in-Some.is (sym w.is_named.ensures ∙ w.if-is_named.false))
       | in_default-via-in_default w ↦ unknown (no_table self (S.state site) m.history name at.holds w.in_default.is)
@@ -126,9 +126,9 @@ returns-in_default-clause-during g c = λ tells before m at.
     let site = c.args.site.now in
     let self = c.args.self.now in
     let name = c.args.name.now in
-    let unknown : table_named name m.history.schema ≡ None → During S.moment S.left_since site c.refuse.new.site (IsLeftBy (select_known (table_named name m.history.schema) m.history) before m) =
-    λ free. subst (λ (t : Option ℕ). During S.moment S.left_since site c.refuse.new.site (IsLeftBy (select_known t m.history) before m)) (sym free)
-    (reply_during S.moment S.left_since site c.refuse.new.site self (S.state site) (S.said site) before (refused_line 0 UnknownTable) [] true m c.requires.within at (c.refuse.ensures.during tells)) in
+    let unknown : table_named name m.history.schema ≡ None → During S.moment S.left_since site c.refuse.new.site (IsLeftBy (select_known c.args.client (table_named name m.history.schema) m.history) before m) =
+    λ free. subst (λ (t : Option ℕ). During S.moment S.left_since site c.refuse.new.site (IsLeftBy (select_known c.args.client t m.history) before m)) (sym free)
+    (reply_during S.moment S.left_since site c.refuse.new.site self (S.state site) (S.said site) before (refused_line c.args.client UnknownTable) [] true m c.requires.within at (c.refuse.ensures.during tells)) in
     elim c.in_default.branch [
       | in_default-via-in-Some+else-is_named w ↦ unknown (other_name self (S.state site) m.history name w.in-Some.named at.holds w.in-Some.is (sym w.is_named.ensures ∙ w.if-is_named.false))
       | in_default-via-in_default w ↦ unknown (no_table self (S.state site) m.history name at.holds w.in_default.is)

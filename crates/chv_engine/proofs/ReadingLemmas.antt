@@ -1,0 +1,47 @@
+-- What is read of a text that is cut into tokens, and of one that is not.
+use Rattle.std.proofs.Common.{◌≡◌, ℕ, List, Some, None, codes, refl}
+use Rattle.chv_ast.specs.Formed.{WellFormed}
+use Rattle.chv_ast.specs.GrammarStatements.{IsStatement}
+use Rattle.chv_ast.specs.Words.{is_word_text, IsName}
+use Rattle.chv_ast.specs.declared.statement.Statement.{Statement}
+use Rattle.chv_lex.specs.Lexemes.{lexemes}
+use Rattle.chv_lex.specs.Tokens.{Cut, IsFaultOf}
+use Rattle.chv_lex.specs.declared.token.LexFault.{LexFault}
+use Rattle.chv_lex.specs.declared.token.LexFault.TheVariants as lex_fault
+use Rattle.chv_lex.specs.declared.token.Token.{Token}
+use Rattle.chv_lex.proofs.ReadingLaws.{tokens_of-stuck}
+use Rattle.chv_lex.proofs.SpelledLaws.{written_is_formed}
+use Rattle.chv_parse.specs.StatementTexts.{statement_in}
+use Rattle.chv_parse.proofs.TextLaws.{statement_of-written, statement_of-none, statement_in-cut, statement_in-uncut, statement_in-written, written-statement_in}
+use Rattle.chv_print.proofs.StatementBack.{statement_reads_back}
+use Rattle.chv_engine.specs.Histories.{TableDef, IsDef, catalog_payload}
+use Rattle.chv_engine.specs.Texts.{create_tree, create_text}
+
+-- a text on which the lexer is stuck
+pub read_uncut : (text : List ℕ) (fault : LexFault) (place : ℕ) → fault ≡ lex_fault.BadToken place → IsFaultOf text fault → statement_in text ≡ None
+read_uncut text fault place is stuck = statement_in-uncut text (tokens_of-stuck text place (rw is at stuck))
+
+-- a text whose tokens write a statement
+pub read_written : (text : List ℕ) (tokens : List Token) (s : Statement) → Cut 0 text tokens → IsStatement s (lexemes text tokens) → statement_in text ≡ Some s
+read_written text tokens s cut written = statement_in-cut text tokens (Some s) cut (statement_of-written (lexemes text tokens) s written)
+
+-- a text whose tokens write none
+pub read_unwritten : (text : List ℕ) (tokens : List Token) → Cut 0 text tokens → ((s : Statement) → IsStatement s (lexemes text tokens) → ⊥) → statement_in text ≡ None
+read_unwritten text tokens cut none = statement_in-cut text tokens None cut (statement_of-none (lexemes text tokens) none)
+
+-- what is read is well formed
+pub read_formed : (text : List ℕ) (s : Statement) → statement_in text ≡ Some s → WellFormed s
+read_formed text s read = written_is_formed text s (written-statement_in text s read)
+
+-- the kind of the columns that are built is a name
+uint64_named : IsName (codes "UInt64")
+unfolding is_word_text
+uint64_named = refl
+
+-- the canonical text of a table is read as the statement that creates it
+pub read_back : (def : TableDef) → IsDef def → statement_in (catalog_payload def) ≡ Some (create_tree def.name def.column)
+unfolding create_text
+read_back def lawful =
+    let tree = create_tree def.name def.column in
+    statement_in-written (catalog_payload def) tree
+    (statement_reads_back tree (catalog_payload def) refl (lawful.name, ((lawful.column, uint64_named), tt), (lawful.column, tt), tt))
