@@ -1,6 +1,7 @@
 // What pieces read as.
 use crate::form::{Form, form_of};
 use crate::reading::read;
+use std::alloc::{AllocError, Global};
 use std::test::Fail;
 
 const ORDERS: Form<'static> = Form::CreateTable {
@@ -20,6 +21,17 @@ fn inserted(value: u64) -> Form<'static> {
         table: b"orders",
         value: Some(value),
     }
+}
+
+fn is_read_as(alloc: Global, piece: &[u8], form: Form<'_>) -> Result<bool, AllocError> {
+    match read(alloc, piece)? {
+        Some(statement) => Ok(form_of(&statement) == form),
+        None => Ok(false),
+    }
+}
+
+fn is_no_statement(alloc: Global, piece: &[u8]) -> Result<bool, AllocError> {
+    Ok(read(alloc, piece)?.is_none())
 }
 
 #[test]
@@ -116,10 +128,7 @@ fn each_form_is_read_in_any_spelling(rt: HostRuntime) -> Result<(), Fail> {
         (b"SYSTEM FLUSH ASYNC INSERT QUEUE", Form::Unbuilt),
     ];
     for (piece, form) in cases {
-        match read(rt.alloc(), piece)? {
-            Some(statement) => assert!(rt; form_of(&statement) == form),
-            None => assert!(rt; false),
-        }
+        assert!(rt; is_read_as(rt.alloc(), piece, form)?);
     }
     Ok(())
 }
@@ -156,10 +165,7 @@ fn other_statements_are_not_built(rt: HostRuntime) -> Result<(), Fail> {
         b"OPTIMIZE TABLE orders FINAL",
     ];
     for piece in cases {
-        match read(rt.alloc(), piece)? {
-            Some(statement) => assert!(rt; form_of(&statement) == Form::Unbuilt),
-            None => assert!(rt; false),
-        }
+        assert!(rt; is_read_as(rt.alloc(), piece, Form::Unbuilt)?);
     }
     Ok(())
 }
@@ -193,7 +199,7 @@ fn another_piece_is_no_statement(rt: HostRuntime) -> Result<(), Fail> {
         b"@16 SELECT * FROM orders",
     ];
     for piece in cases {
-        assert!(rt; read(rt.alloc(), piece)?.is_none());
+        assert!(rt; is_no_statement(rt.alloc(), piece)?);
     }
     Ok(())
 }

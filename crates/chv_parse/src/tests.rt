@@ -1,5 +1,8 @@
 use crate::{ParseFault, statement};
-use chv_ast::{Item, KindWord, Literal, Statement};
+use chv_ast::{
+    ColumnDef, ColumnDefs, Item, Items, KindWord, Literal, LiteralRows, Orders, Seq, Settings,
+    Statement,
+};
 use chv_lex::tokens;
 use std::alloc::Global;
 use std::test::Fail;
@@ -148,118 +151,171 @@ fn no_queries(rt: HostRuntime) {
     }
 }
 
-// The last of two settings counts, a minus and the digits of a value, and what a text stands for.
-#[test]
-fn an_insert_is_read_whole(rt: HostRuntime) {
-    let text =
-        b"INSERT INTO TABLE (a) SETTINGS async_insert = 1, max_insert_block_size = 007, async_insert = 0, insert_deduplication_token = 'a''b\\n' VALUES (-0012, TRUE), ('')";
-    let answer = read(rt.alloc(), text);
-    match &answer {
-        Ok(
-            Statement::Insert {
-                table,
-                columns,
-                settings,
-                rows,
-            },
-        ) => {
-            assert_eq!(rt; table.as_slice(), b"TABLE".as_slice());
-            assert_eq!(rt; columns.is_some(), true);
-            assert_eq!(rt; settings.later, false);
-            assert_eq!(rt; settings.waits, true);
-            assert_eq!(rt; settings.min_rows.is_some(), false);
-            match &settings.max_rows {
-                Some(digits) => assert_eq!(rt; digits.as_slice(), b"7".as_slice()),
-                None => assert!(rt; false),
-            }
-            match &settings.token {
-                Some(token) => assert_eq!(rt; token.as_slice(), b"a'b\n".as_slice()),
-                None => assert!(rt; false),
-            }
-            assert_eq!(rt; rows.len(), 2);
-            match rows.as_slice().first() {
-                Some(row) => match row.as_slice().first() {
-                    Some(Literal::Whole { minus, digits }) => {
-                        assert_eq!(rt; *minus, true);
-                        assert_eq!(rt; digits.as_slice(), b"12".as_slice());
-                    }
-                    _ => assert!(rt; false),
-                },
-                None => assert!(rt; false),
-            }
-        }
-        _ => assert!(rt; false),
+// Whether digits or a text are there, and are these bytes.
+fn are(found: &Option<Seq<u8>>, bytes: &[u8]) -> bool {
+    match found {
+        Some(found) => found.as_slice() == bytes,
+        None => false,
     }
 }
 
-// The columns of a table with their kinds, its key and its window.
-#[test]
-fn a_table_is_read_whole(rt: HostRuntime) {
-    let text =
-        b"CREATE TABLE t (k UInt64, a AggregateFunction(sum, UInt64)) ENGINE MergeTree ORDER BY (k, a) SETTINGS non_replicated_deduplication_window = 0";
-    let answer = read(rt.alloc(), text);
-    match &answer {
-        Ok(
-            Statement::CreateTable {
-                name,
-                columns,
-                key,
-                window,
+// The last of two settings counts.
+fn has_settings(settings: &Settings) -> bool {
+    !settings.later
+        && settings.waits
+        && are(&settings.max_rows, b"7")
+        && are(&settings.token, b"a'b\n")
+        && settings.min_rows.is_none()
+}
+
+// A minus, and digits without leading zeros.
+fn has_literal(row: &Seq<Literal>) -> bool {
+    match row.as_slice().first() {
+        Some(Literal::Whole { minus, digits }) => *minus && digits.as_slice() == b"12".as_slice(),
+        _ => false,
+    }
+}
+
+fn has_rows(rows: &LiteralRows) -> bool {
+    match rows.as_slice().first() {
+        Some(row) => rows.len() == 2 && has_literal(row),
+        None => false,
+    }
+}
+
+fn is_insert(statement: &Statement) -> bool {
+    match statement {
+        Statement::Insert {
+            table,
+            columns,
+            settings,
+            rows,
+        } => {
+            table.as_slice() == b"TABLE".as_slice()
+                && columns.is_some()
+                && has_settings(settings)
+                && has_rows(rows)
+        }
+        _ => false,
+    }
+}
+
+// A column with the state of an aggregate.
+fn has_state(columns: &ColumnDefs) -> bool {
+    match columns.as_slice().last() {
+        Some(
+            ColumnDef {
+                kind: KindWord::Agg { function, arg },
                 ..
             },
-        ) => {
-            assert_eq!(rt; name.as_slice(), b"t".as_slice());
-            assert_eq!(rt; columns.len(), 2);
-            match columns.as_slice().last() {
-                Some(column) => match &column.kind {
-                    KindWord::Agg { function, arg } => {
-                        assert_eq!(rt; function.as_slice(), b"sum".as_slice());
-                        assert_eq!(rt; arg.is_some(), true);
-                    }
-                    KindWord::Plain(_) => assert!(rt; false),
-                },
-                None => assert!(rt; false),
-            }
-            assert_eq!(rt; key.len(), 2);
-            match window {
-                Some(digits) => assert_eq!(rt; digits.as_slice(), b"0".as_slice()),
-                None => assert!(rt; false),
-            }
-        }
-        _ => assert!(rt; false),
+        ) => function.as_slice() == b"sum".as_slice() && are(arg, b"UInt64"),
+        _ => false,
     }
 }
 
-// The parts of a query.
-#[test]
-fn a_query_is_read_whole(rt: HostRuntime) {
-    let text = b"SELECT *, k AS `as` FROM t FINAL WHERE k GROUP BY k, v ORDER BY k, v DESC LIMIT 3";
-    let answer = read(rt.alloc(), text);
-    match &answer {
-        Ok(Statement::Query { select }) => {
-            assert_eq!(rt; select.merged, true);
-            assert_eq!(rt; select.filter.is_some(), true);
-            assert_eq!(rt; select.keys.len(), 2);
-            match select.items.as_slice().last() {
-                Some(
-                    Item::One {
-                        alias: Some(alias),
-                        ..
-                    },
-                ) => assert_eq!(rt; alias.as_slice(), b"as".as_slice()),
-                _ => assert!(rt; false),
-            }
-            match select.order.as_slice() {
-                [first, last] => {
-                    assert_eq!(rt; first.down, false);
-                    assert_eq!(rt; last.down, true);
-                }
-                _ => assert!(rt; false),
-            }
-            assert_eq!(rt; select.limit.is_some(), true);
+fn is_table(statement: &Statement) -> bool {
+    match statement {
+        Statement::CreateTable {
+            name,
+            columns,
+            key,
+            window,
+            ..
+        } => {
+            name.as_slice() == b"t".as_slice()
+                && has_state(columns)
+                && key.len() == 2
+                && are(window, b"0")
         }
-        _ => assert!(rt; false),
+        _ => false,
     }
+}
+
+fn has_alias(items: &Items) -> bool {
+    match items.as_slice().last() {
+        Some(Item::One { alias, .. }) => are(alias, b"as"),
+        _ => false,
+    }
+}
+
+fn goes_down(orders: &Orders) -> bool {
+    match orders.as_slice() {
+        [first, last] => !first.down && last.down,
+        _ => false,
+    }
+}
+
+fn is_query(statement: &Statement) -> bool {
+    match statement {
+        Statement::Query { select } => {
+            select.merged
+                && select.filter.is_some()
+                && select.keys.len() == 2
+                && has_alias(&select.items)
+                && goes_down(&select.order)
+                && are(&select.limit, b"3")
+        }
+        _ => false,
+    }
+}
+
+fn has_many_rows(statement: &Statement) -> bool {
+    match statement {
+        Statement::Insert { rows, .. } => rows.len() == 100_001,
+        _ => false,
+    }
+}
+
+fn reads_insert(alloc: Global, text: &[u8]) -> bool {
+    match read(alloc, text) {
+        Ok(statement) => is_insert(&statement),
+        Err(_) => false,
+    }
+}
+
+fn reads_table(alloc: Global, text: &[u8]) -> bool {
+    match read(alloc, text) {
+        Ok(statement) => is_table(&statement),
+        Err(_) => false,
+    }
+}
+
+fn reads_query(alloc: Global, text: &[u8]) -> bool {
+    match read(alloc, text) {
+        Ok(statement) => is_query(&statement),
+        Err(_) => false,
+    }
+}
+
+fn reads_many_rows(alloc: Global, text: &[u8]) -> bool {
+    match read(alloc, text) {
+        Ok(statement) => has_many_rows(&statement),
+        Err(_) => false,
+    }
+}
+
+// Whole trees: settings of which the last counts, a minus, digits, what a text stands for, an alias, a direction.
+#[test]
+fn statements_are_read_whole(rt: HostRuntime) {
+    let alloc = rt.alloc();
+    assert!(rt;
+        reads_insert(
+            alloc,
+            b"INSERT INTO TABLE (a) SETTINGS async_insert = 1, max_insert_block_size = 007, async_insert = 0, insert_deduplication_token = 'a''b\\n' VALUES (-0012, TRUE), ('')"
+        )
+    );
+    assert!(rt;
+        reads_table(
+            alloc,
+            b"CREATE TABLE t (k UInt64, a AggregateFunction(sum, UInt64)) ENGINE MergeTree ORDER BY (k, a) SETTINGS non_replicated_deduplication_window = 0"
+        )
+    );
+    assert!(rt;
+        reads_query(
+            alloc,
+            b"SELECT *, k AS `as` FROM t FINAL WHERE k GROUP BY k, v ORDER BY k, v DESC LIMIT 3"
+        )
+    );
 }
 
 // An insert of many rows.
@@ -270,10 +326,6 @@ fn many_rows_are_read(rt: HostRuntime) -> Result<(), Fail> {
     for _ in 0..100_000 {
         text.extend_from_slice(b", (1, 'x')")?;
     }
-    let answer = read(rt.alloc(), text.as_slice());
-    match &answer {
-        Ok(Statement::Insert { rows, .. }) => assert_eq!(rt; rows.len(), 100_001),
-        _ => assert!(rt; false),
-    }
+    assert!(rt; reads_many_rows(rt.alloc(), text.as_slice()));
     Ok(())
 }

@@ -1,7 +1,7 @@
 use crate::{expr_text, statement_text};
 use chv_ast::{
-    Args, BinaryOp, ColumnDef, EngineWord, Expr, Item, Items, KindWord, Literal, Name, Order,
-    Orders, Select, Seq, Settings, Statement, UnaryOp,
+    Args, BinaryOp, ColumnDef, EngineWord, Expr, Exprs, Item, Items, KindWord, Literal, Name,
+    Order, Orders, Select, Seq, Settings, Statement, UnaryOp,
 };
 use sqlite_items::Boxed;
 use std::alloc::{AllocError, Global};
@@ -315,18 +315,37 @@ fn query_of_all(alloc: Global) -> Result<Statement, AllocError> {
     })
 }
 
+fn two_keys(alloc: Global) -> Result<Exprs, AllocError> {
+    let first = column(alloc, b"k")?;
+    let second = binary(alloc, BinaryOp::Modulo, b"a", b"b")?;
+    two(alloc, first, second)
+}
+
+fn select_of(
+    alloc: Global,
+    items: Items,
+    keys: Exprs,
+    order: Orders,
+) -> Result<Select, AllocError> {
+    let filter = Some(binary(alloc, BinaryOp::Greater, b"v", b"w")?);
+    let limit = Some(bytes(alloc, b"10")?);
+    let table = bytes(alloc, b"t")?;
+    Ok(Select {
+        items,
+        table,
+        merged: true,
+        filter,
+        keys,
+        order,
+        limit,
+    })
+}
+
 fn query_with_everything(alloc: Global) -> Result<Statement, AllocError> {
-    let mut select = select_all(alloc)?;
-    select.items = two_items(alloc)?;
-    select.merged = true;
-    select.filter = Some(binary(alloc, BinaryOp::Greater, b"v", b"w")?);
-    select.keys = two(
-        alloc,
-        column(alloc, b"k")?,
-        binary(alloc, BinaryOp::Modulo, b"a", b"b")?,
-    )?;
-    select.order = two_orders(alloc)?;
-    select.limit = Some(bytes(alloc, b"10")?);
+    let items = two_items(alloc)?;
+    let keys = two_keys(alloc)?;
+    let order = two_orders(alloc)?;
+    let select = select_of(alloc, items, keys, order)?;
     Ok(Statement::Query { select })
 }
 
