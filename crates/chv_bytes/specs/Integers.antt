@@ -1,0 +1,43 @@
+-- Integers of eight kinds, and their bytes: docs/FORMATS.md, "Integers".
+use Rattle.std.specs.Prelude.{ℕ, ℤ, pos, negsuc, Bool, true, false, ◌-◌, ◌^◌, ◌≤ℤ◌, if◌then◌else◌, List}
+use Rattle.byteorder.specs.Endian.{little_bytes, little_number, twos_complement}
+use Rattle.chv_bytes.specs.declared.integer.IntKind.{IntKind}
+use Rattle.chv_bytes.specs.declared.integer.IntKind.TheVariants.{U8, U16, U32, U64, I8, I16, I32, I64}
+
+-- how many bytes an integer has, whether it may be below zero, and its least and greatest value
+pub record IntForm : Type 0 where
+  pub width : ℕ
+  pub signed : Bool
+  pub least : ℤ
+  pub greatest : ℤ
+
+-- the table of the eight kinds
+abbrev pub form_of : IntKind → IntForm
+form_of U8 = record { width = 1; signed = false; least = pos 0; greatest = pos 255 }
+form_of U16 = record { width = 2; signed = false; least = pos 0; greatest = pos 65535 }
+form_of U32 = record { width = 4; signed = false; least = pos 0; greatest = pos 4294967295 }
+form_of U64 = record { width = 8; signed = false; least = pos 0; greatest = pos 18446744073709551615 }
+form_of I8 = record { width = 1; signed = true; least = negsuc 127; greatest = pos 127 }
+form_of I16 = record { width = 2; signed = true; least = negsuc 32767; greatest = pos 32767 }
+form_of I32 = record { width = 4; signed = true; least = negsuc 2147483647; greatest = pos 2147483647 }
+form_of I64 = record { width = 8; signed = true; least = negsuc 9223372036854775807; greatest = pos 9223372036854775807 }
+
+-- a number is one of a kind
+pub record InRange (kind : IntKind) (v : ℤ) : Type 0 where
+  pub least : (form_of kind).least ≤ℤ v
+  pub greatest : v ≤ℤ (form_of kind).greatest
+
+-- a number modulo 256 ^ width: one below zero is 256 ^ width more (two's complement)
+abbrev pub complement : ℕ → ℤ → ℕ
+complement width (pos n) = n
+complement width (negsuc n) = 256 ^ width - 1 - n
+
+-- an integer in bytes
+abbrev pub int_bytes : IntKind → ℤ → List ℕ
+int_bytes kind v = little_bytes (form_of kind).width (complement (form_of kind).width v)
+
+-- the integer that the first bytes are
+abbrev pub int_value : IntKind → List ℕ → ℤ
+int_value kind bytes =
+    if (form_of kind).signed then twos_complement (form_of kind).width (little_number (form_of kind).width bytes)
+    else pos (little_number (form_of kind).width bytes)
