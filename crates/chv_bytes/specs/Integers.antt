@@ -22,22 +22,28 @@ form_of I16 = record { width = 2; signed = true; least = negsuc 32767; greatest 
 form_of I32 = record { width = 4; signed = true; least = negsuc 2147483647; greatest = pos 2147483647 }
 form_of I64 = record { width = 8; signed = true; least = negsuc 9223372036854775807; greatest = pos 9223372036854775807 }
 
--- a number is one of a kind
+-- how many bytes an integer of a kind has
+abbrev pub width_of : IntKind → ℕ
+width_of kind = (form_of kind).width
+
+-- an integer lies between the least and the greatest of a kind
 pub record InRange (kind : IntKind) (v : ℤ) : Type 0 where
   pub least : (form_of kind).least ≤ℤ v
   pub greatest : v ≤ℤ (form_of kind).greatest
 
--- a number modulo 256 ^ width: one below zero is 256 ^ width more (two's complement)
-abbrev pub complement : ℕ → ℤ → ℕ
-complement width (pos n) = n
-complement width (negsuc n) = 256 ^ width - 1 - n
+-- an integer as a number of that many bytes: below zero it is 256 ^ width more, which is two's complement
+abbrev pub number_for : ℕ → ℤ → ℕ
+number_for width (pos n) = n
+number_for width (negsuc n) = 256 ^ width - 1 - n
+
+-- the integer that a number of that many bytes is, where it may be below zero and where not
+abbrev pub integer_for : Bool → ℕ → ℕ → ℤ
+integer_for signed width n = if signed then twos_complement width n else pos n
 
 -- an integer in bytes
 abbrev pub int_bytes : IntKind → ℤ → List ℕ
-int_bytes kind v = little_bytes (form_of kind).width (complement (form_of kind).width v)
+int_bytes kind v = little_bytes (width_of kind) (number_for (width_of kind) v)
 
 -- the integer that the first bytes are
 abbrev pub int_value : IntKind → List ℕ → ℤ
-int_value kind bytes =
-    if (form_of kind).signed then twos_complement (form_of kind).width (little_number (form_of kind).width bytes)
-    else pos (little_number (form_of kind).width bytes)
+int_value kind bytes = integer_for (form_of kind).signed (width_of kind) (little_number (width_of kind) bytes)

@@ -1,6 +1,6 @@
 // Integers of eight kinds.
 ghost use Rattle.std.specs.Prelude.{◌≡◌, ◌≤◌, ◌<◌, ◌+◌, ◌++◌, ◌↔◌, length, drop, IfSome, IsNone, OnOk, OnErr};
-ghost use Rattle.chv_bytes.specs.Integers.{form_of, InRange, int_bytes, int_value};
+ghost use Rattle.chv_bytes.specs.Integers.{form_of, width_of, InRange, int_bytes, int_value};
 ghost use Rattle.chv_bytes.specs.Places.{StandsAt};
 
 use byteorder::{ByteOrder, LittleEndian};
@@ -22,7 +22,7 @@ pub enum IntKind {
 impl IntKind {
     /// How many bytes an integer of the kind has.
     pub fn width(self) -> usize
-        ensures width { result ≡ (form_of self).width }
+        ensures width { result ≡ width_of self }
         ensures range { (1 ≤ result) × (result ≤ 8) }
     {
         match self {
@@ -62,7 +62,7 @@ pub fn read_int(bytes: &[u8], at: usize, kind: IntKind) -> Option<(i128, usize)>
     ensures value { IfSome result (λ r. r.0 ≡ int_value kind (drop at bytes.now)) }
     ensures range { IfSome result (λ r. InRange kind r.0) }
     ensures found { IfSome result (λ r. StandsAt (int_bytes kind r.0) bytes.now at r.1) }
-    ensures none { IsNone result ↔ (length bytes.now < at + (form_of kind).width) }
+    ensures none { IsNone result ↔ (length bytes.now < at + width_of kind) }
 {
     let width = kind.width();
     if at > bytes.len() || bytes.len() - at < width {
@@ -73,7 +73,7 @@ pub fn read_int(bytes: &[u8], at: usize, kind: IntKind) -> Option<(i128, usize)>
 
 // The integer of a kind that the first bytes are.
 fn first_int(bytes: &[u8], kind: IntKind) -> i128
-    requires { (form_of kind).width ≤ length bytes.now }
+    requires { width_of kind ≤ length bytes.now }
     ensures value { result ≡ int_value kind bytes.now }
 {
     let width = kind.width();

@@ -1,7 +1,7 @@
 // What holds of all numbers and runs, as laws on the definitions.
 ghost use Rattle.std.specs.Prelude.{List, ℕ, ℤ, ◌≡◌, ◌≤◌, ◌<◌, ◌+◌, ◌^◌, ◌++◌, length, take, drop};
 ghost use Rattle.byteorder.specs.Endian.{little_bytes, little_number};
-ghost use Rattle.chv_bytes.specs.Integers.{form_of, InRange, int_bytes, int_value};
+ghost use Rattle.chv_bytes.specs.Integers.{form_of, width_of, InRange, int_bytes, int_value};
 ghost use Rattle.chv_bytes.specs.Places.{AreBytes};
 ghost use Rattle.chv_bytes.specs.Runs.{run_bytes, RunFits};
 ghost use Rattle.chv_bytes.specs.declared.integer.IntKind.{IntKind};
@@ -23,8 +23,8 @@ pub fn law_integer_reads_back()
 
 /// What bytes read as is an integer of the kind, and is put as these bytes.
 pub fn law_integer_of_bytes()
-    ensures { (kind : IntKind) (bytes : List ℕ) → (form_of kind).width ≤ length bytes → AreBytes bytes
-        → InRange kind (int_value kind bytes) × (int_bytes kind (int_value kind bytes) ≡ take (form_of kind).width bytes) }
+    ensures { (kind : IntKind) (bytes : List ℕ) → width_of kind ≤ length bytes → AreBytes bytes
+        → InRange kind (int_value kind bytes) × (int_bytes kind (int_value kind bytes) ≡ take width_of kind bytes) }
 {}
 
 /// Bytes begin with one integer of a kind at most.
