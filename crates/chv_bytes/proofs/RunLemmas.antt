@@ -17,7 +17,8 @@ one_run a b x y of_a of_b same =
 -- a run that stands at a place fits there
 pub run_fits : (run rest bytes : List ℕ) (at : ℕ) → length run < 2 ^ 32 → drop at bytes ≡ run_bytes run ++ rest → RunFits bytes at
 run_fits run rest bytes at short stands =
-    let size : length (drop at bytes) ≡ 4 + (length run + length rest) = ap length stands ∙ ap (λ (n : ℕ). 4 + n) (length-append run rest) in
+    let whole : length (drop at bytes) ≡ length (run_bytes run ++ rest) = ap length stands in
+    let size : length (drop at bytes) ≡ 4 + length run + length rest = omega (arith, whole, length-append run rest) in
     let number : little_number 4 (drop at bytes) ≡ length run = ap (λ (l : List ℕ). little_number 4 l) stands ∙ little_number-reads_back 4 (length run) (run ++ rest) short in
     let left = length-drop at bytes in
     record { length_fits = omega (arith, size, left); run_fits = omega (arith, size, left, number) }

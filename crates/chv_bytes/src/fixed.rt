@@ -29,7 +29,17 @@ pub fn unfix<const W: usize>(f: &Fixed<W>) -> u64
     ensures bytes { f.now.bytes ≡ little_bytes W result }
     ensures fits { result < 256 ^ W }
 {
-    LittleEndian::read_uint(&f.bytes, W)
+    number_in(&f.bytes)
+}
+
+// The number that 1 to 8 bytes are.
+fn number_in(bytes: &[u8]) -> u64
+    requires width { (1 ≤ length bytes.now) × (length bytes.now ≤ 8) }
+    ensures value { result ≡ little_number (length bytes.now) bytes.now }
+    ensures bytes { bytes.now ≡ little_bytes (length bytes.now) result }
+    ensures fits { result < 256 ^ length bytes.now }
+{
+    LittleEndian::read_uint(bytes, bytes.len())
 }
 
 /// The number whose bytes begin at `at`, and the place behind it. None where fewer than `W` bytes are left.

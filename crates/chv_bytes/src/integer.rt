@@ -1,5 +1,5 @@
 // Integers of eight kinds.
-ghost use Rattle.std.specs.Prelude.{◌≡◌, ◌≤◌, ◌<◌, ◌+◌, ◌++◌, ◌↔◌, length, drop, IfSome, IsNone, OnOk, OnErr};
+ghost use Rattle.std.specs.Prelude.{◌≡◌, ◌≤◌, ◌<◌, ◌+◌, ◌++◌, ◌↔◌, length, take, drop, IfSome, IsNone, OnOk, OnErr};
 ghost use Rattle.chv_bytes.specs.Integers.{form_of, width_of, InRange, int_bytes, int_value};
 ghost use Rattle.chv_bytes.specs.Places.{StandsAt};
 
@@ -50,10 +50,18 @@ pub fn put_int(out: &mut Vec<u8>, kind: IntKind, v: i128) -> Result<(), AllocErr
     ensures put { OnOk result (out.new.items ≡ out.old.items ++ int_bytes kind v) }
     ensures err { OnErr result (out.new.items ≡ out.old.items) }
 {
-    let width = kind.width();
+    let bytes = padded(kind, v);
+    out.extend_from_slice(&bytes[..kind.width()])
+}
+
+// The bytes of an integer, with zeros behind them.
+fn padded(kind: IntKind, v: i128) -> [u8; 8]
+    requires { InRange kind v }
+    ensures { take (width_of kind) result ≡ int_bytes kind v }
+{
     let mut bytes = [0u8; 8];
-    LittleEndian::write_int128(&mut bytes, v, width);
-    out.extend_from_slice(&bytes[..width])
+    LittleEndian::write_int128(&mut bytes, v, kind.width());
+    bytes
 }
 
 /// The integer of a kind whose bytes begin at `at`, and the place behind it. None where fewer bytes are left than the
@@ -75,6 +83,8 @@ pub fn read_int(bytes: &[u8], at: usize, kind: IntKind) -> Option<(i128, usize)>
 fn first_int(bytes: &[u8], kind: IntKind) -> i128
     requires { width_of kind ≤ length bytes.now }
     ensures value { result ≡ int_value kind bytes.now }
+    ensures range { InRange kind result }
+    ensures bytes { int_bytes kind result ≡ take (width_of kind) bytes.now }
 {
     let width = kind.width();
     if kind.is_signed() {

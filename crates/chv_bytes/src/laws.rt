@@ -24,7 +24,7 @@ pub fn law_integer_reads_back()
 /// What bytes read as is an integer of the kind, and is put as these bytes.
 pub fn law_integer_of_bytes()
     ensures { (kind : IntKind) (bytes : List ℕ) → width_of kind ≤ length bytes → AreBytes bytes
-        → InRange kind (int_value kind bytes) × (int_bytes kind (int_value kind bytes) ≡ take width_of kind bytes) }
+        → InRange kind (int_value kind bytes) × (int_bytes kind (int_value kind bytes) ≡ take (width_of kind) bytes) }
 {}
 
 /// Bytes begin with one integer of a kind at most.
