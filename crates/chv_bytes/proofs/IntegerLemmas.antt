@@ -1,5 +1,5 @@
 -- Integers of eight kinds.
-use Rattle.std.proofs.Common.{◌≡◌, ℕ, ℤ, pos, negsuc, zero, suc, ◌+◌, ◌-◌, ◌*◌, ◌%◌, ◌^◌, ◌<◌, ◌≤◌, List, ◌++◌, length, take, drop, refl, sym, ap, ap₂, ◌∙◌, arith, inl, inr}
+use Rattle.std.proofs.Common.{◌≡◌, ℕ, ℤ, pos, negsuc, ◌+◌, ◌-◌, ◌^◌, ◌<◌, ◌≤◌, List, ◌++◌, length, take, drop, refl, sym, ap, ap₂, ◌∙◌, arith, inl, inr}
 use Rattle.std.proofs.lemmas.Bool.{cases_lt, le-ltb, lt-ltb}
 use Rattle.std.proofs.lemmas.Int.{ints}
 use Rattle.std.proofs.lemmas.List.{drop-drop, take-append-drop, take-append-le, take_all}
@@ -85,6 +85,11 @@ pub integer_of_bytes : (kind : IntKind) (bytes : List ℕ) → width_of kind ≤
 integer_of_bytes kind bytes within are =
     let h = number_is kind (little_number (width_of kind) bytes) (little_from-lt 0 (width_of kind) bytes are) in
     (h.in_range, ap (little_bytes (width_of kind)) h.number ∙ bytes_of_number (width_of kind) bytes within are)
+
+-- the same of an integer that the bytes read as
+pub integer_read : (kind : IntKind) (v : ℤ) (bytes : List ℕ) → v ≡ int_value kind bytes → width_of kind ≤ length bytes → AreBytes bytes
+    → InRange kind v × (int_bytes kind v ≡ take (width_of kind) bytes)
+integer_read kind v bytes is within are = rw is (integer_of_bytes kind bytes within are)
 
 -- the bytes that an integer is read of stand at their place
 pub integer_stands : (kind : IntKind) (v : ℤ) (bytes : List ℕ) (at behind : ℕ) → int_bytes kind v ≡ take (width_of kind) (drop at bytes)

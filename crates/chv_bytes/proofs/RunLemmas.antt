@@ -1,9 +1,9 @@
 -- Runs of bytes.
-use Rattle.std.proofs.Common.{◌≡◌, ℕ, zero, suc, ◌+◌, ◌-◌, ◌*◌, ◌^◌, ◌<◌, ◌≤◌, List, ◌++◌, length, take, drop, refl, sym, ap, ap₂, ◌∙◌, arith, length-append, length-take, length-drop}
-use Rattle.std.proofs.lemmas.List.{append_cancel_left, append_assoc, drop-drop, length-take-le, take-append-drop}
+use Rattle.std.proofs.Common.{◌≡◌, ℕ, ◌+◌, ◌-◌, ◌^◌, ◌<◌, ◌≤◌, List, ◌++◌, length, take, drop, refl, sym, ap, ap₂, ◌∙◌, arith, length-append, length-drop}
+use Rattle.std.proofs.lemmas.List.{drop-drop, length-take-le, take-append-drop}
 use Rattle.byteorder.specs.Endian.{little_bytes, little_number}
 use Rattle.byteorder.specs.Numbers.{little_number-reads_back}
-use Rattle.chv_bytes.specs.Places.{AreBytes, StandsAt}
+use Rattle.chv_bytes.specs.Places.{AreBytes}
 use Rattle.chv_bytes.specs.Runs.{run_bytes, between, RunFits, RunStandsAt}
 use Rattle.chv_bytes.proofs.NumberLemmas.{AreBytes-drop, bytes_of_number, same_split}
 
