@@ -100,5 +100,5 @@ integer_stands kind v bytes at behind is next within =
     record {
       next = omega (arith, long);
       within = omega arith;
-      spelled = sym (ap₂ (λ (x y : List ℕ). x ++ y) is rest ∙ take-append-drop (width_of kind) (drop at bytes))
+      spelled = sym (ap₂ (λ (x y : List ℕ). x ++ y) is rest ∙ take-append-drop (width_of kind) (drop at bytes));
     }

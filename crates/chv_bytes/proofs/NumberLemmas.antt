@@ -17,7 +17,7 @@ byte_at-above : (i b x : ℕ) → b < 256 → byte_at (suc i) (b + 256 * x) ≡ 
 byte_at-above i b x h =
     let high : (b + 256 * x) / 256 ≡ x = omega (arith, h) in
     let quotient : (b + 256 * x) / 256 ^ suc i ≡ x / 256 ^ i =
-        ap (λ (p : ℕ). (b + 256 * x) / p) (pow-succ' 256 i) ∙ sym (div-div-eq-div-mul (b + 256 * x) 256 (256 ^ i)) ∙ ap (λ (n : ℕ). n / 256 ^ i) high in
+    ap (λ (p : ℕ). (b + 256 * x) / p) (pow-succ' 256 i) ∙ sym (div-div-eq-div-mul (b + 256 * x) 256 (256 ^ i)) ∙ ap (λ (n : ℕ). n / 256 ^ i) high in
     ap (λ (n : ℕ). n % 256) quotient ∙ sym (byte_at-quotient i x)
 
 -- with a byte put below it, the bytes of a number stand one place higher
@@ -36,7 +36,7 @@ bytes_of_number (suc width) (b ∷ bytes) within h =
     let moved : little_from 1 width (b ∷ bytes) ≡ rest = little_from-cons 0 width b bytes in
     let low : (b + 256 * rest) % 256 ≡ b = omega (arith, first) in
     let high : bytes_low_first 1 width (b + 256 * rest) ≡ take width bytes =
-        bytes_low_first-above 0 width b rest first ∙ bytes_of_number width bytes (omega arith) (λ i. h (suc i)) in
+    bytes_low_first-above 0 width b rest first ∙ bytes_of_number width bytes (omega arith) (λ i. h (suc i)) in
     rw moved (ap₂ (λ (y : ℕ) (ys : List ℕ). y ∷ ys) low high)
 
 -- the same of exactly as many bytes as the width has

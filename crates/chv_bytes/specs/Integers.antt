@@ -1,5 +1,5 @@
--- Integers of eight kinds, and their bytes: docs/FORMATS.md, "Integers".
-use Rattle.std.specs.Prelude.{ℕ, ℤ, pos, negsuc, Bool, true, false, ◌-◌, ◌^◌, ◌≤ℤ◌, if◌then◌else◌, List}
+-- Integers of eight kinds, and their bytes.
+use Rattle.std.specs.Prelude.{ℕ, ℤ, pos, negsuc, neg_ℤ, Bool, true, false, ◌-◌, ◌^◌, ◌≤ℤ◌, if◌then◌else◌, List}
 use Rattle.byteorder.specs.Endian.{little_bytes, little_number, twos_complement}
 use Rattle.chv_bytes.specs.declared.integer.IntKind.{IntKind}
 use Rattle.chv_bytes.specs.declared.integer.IntKind.TheVariants.{U8, U16, U32, U64, I8, I16, I32, I64}
@@ -13,14 +13,14 @@ pub record IntForm : Type 0 where
 
 -- the table of the eight kinds
 abbrev pub form_of : IntKind → IntForm
-form_of U8 = record { width = 1; signed = false; least = pos 0; greatest = pos 255 }
-form_of U16 = record { width = 2; signed = false; least = pos 0; greatest = pos 65535 }
-form_of U32 = record { width = 4; signed = false; least = pos 0; greatest = pos 4294967295 }
-form_of U64 = record { width = 8; signed = false; least = pos 0; greatest = pos 18446744073709551615 }
-form_of I8 = record { width = 1; signed = true; least = negsuc 127; greatest = pos 127 }
-form_of I16 = record { width = 2; signed = true; least = negsuc 32767; greatest = pos 32767 }
-form_of I32 = record { width = 4; signed = true; least = negsuc 2147483647; greatest = pos 2147483647 }
-form_of I64 = record { width = 8; signed = true; least = negsuc 9223372036854775807; greatest = pos 9223372036854775807 }
+form_of U8 = record { width = 1; signed = false; least = pos 0; greatest = pos (2 ^ 8 - 1) }
+form_of U16 = record { width = 2; signed = false; least = pos 0; greatest = pos (2 ^ 16 - 1) }
+form_of U32 = record { width = 4; signed = false; least = pos 0; greatest = pos (2 ^ 32 - 1) }
+form_of U64 = record { width = 8; signed = false; least = pos 0; greatest = pos (2 ^ 64 - 1) }
+form_of I8 = record { width = 1; signed = true; least = neg_ℤ (pos (2 ^ 7)); greatest = pos (2 ^ 7 - 1) }
+form_of I16 = record { width = 2; signed = true; least = neg_ℤ (pos (2 ^ 15)); greatest = pos (2 ^ 15 - 1) }
+form_of I32 = record { width = 4; signed = true; least = neg_ℤ (pos (2 ^ 31)); greatest = pos (2 ^ 31 - 1) }
+form_of I64 = record { width = 8; signed = true; least = neg_ℤ (pos (2 ^ 63)); greatest = pos (2 ^ 63 - 1) }
 
 -- how many bytes an integer of a kind has
 abbrev pub width_of : IntKind → ℕ

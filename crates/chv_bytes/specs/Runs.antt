@@ -1,5 +1,5 @@
--- Runs of bytes, each with its length in front: docs/FORMATS.md, "Runs".
-use Rattle.std.specs.Prelude.{ℕ, ◌≡◌, ◌≤◌, ◌+◌, ◌-◌, List, ◌++◌, length, take, drop}
+-- Runs of bytes, each with its length in front.
+use Rattle.std.specs.Prelude.{ℕ, ◌≡◌, ◌≤◌, ◌<◌, ◌+◌, ◌-◌, ◌^◌, List, ◌++◌, length, take, drop}
 use Rattle.byteorder.specs.Endian.{little_bytes, little_number}
 use Rattle.chv_bytes.specs.Places.{StandsAt}
 
@@ -16,8 +16,9 @@ pub record RunFits (bytes : List ℕ) (at : ℕ) : Type 0 where
   pub length_fits : at + 4 ≤ length bytes
   pub run_fits : at + 4 + little_number 4 (drop at bytes) ≤ length bytes
 
--- a run stands at a place, behind its length, and has these ends
+-- a run stands at a place, behind its length, and has this start and this end
 pub record RunStandsAt (bytes : List ℕ) (at start end : ℕ) : Type 0 where
   pub behind_length : start ≡ at + 4
   pub in_order : start ≤ end
+  pub short : end < start + 2 ^ 32
   pub stands : StandsAt (run_bytes (between start end bytes)) bytes at end

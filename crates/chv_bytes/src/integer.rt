@@ -20,8 +20,8 @@ pub enum IntKind {
 }
 
 impl IntKind {
-    /// How many bytes an integer of the kind has.
-    pub fn width(self) -> usize
+    // How many bytes an integer of the kind has.
+    fn width(self) -> usize
         ensures width { result ≡ width_of self }
         ensures range { (1 ≤ result) × (result ≤ 8) }
     {
@@ -33,8 +33,8 @@ impl IntKind {
         }
     }
 
-    /// Whether the kind has numbers below zero.
-    pub fn is_signed(self) -> bool
+    // Whether the kind has numbers below zero.
+    fn is_signed(self) -> bool
         ensures { result ≡ (form_of self).signed }
     {
         match self {

@@ -3,7 +3,7 @@ ghost use Rattle.std.specs.Prelude.{List, ℕ, ℤ, ◌≡◌, ◌≤◌, ◌<�
 ghost use Rattle.byteorder.specs.Endian.{little_bytes, little_number};
 ghost use Rattle.chv_bytes.specs.Integers.{form_of, width_of, InRange, int_bytes, int_value};
 ghost use Rattle.chv_bytes.specs.Places.{AreBytes};
-ghost use Rattle.chv_bytes.specs.Runs.{run_bytes, RunFits};
+ghost use Rattle.chv_bytes.specs.Runs.{run_bytes, between, RunFits, RunStandsAt};
 ghost use Rattle.chv_bytes.specs.declared.integer.IntKind.{IntKind};
 
 /// What a number is put as reads back as the number, whatever follows it: `unfix` of `fix` at every width.
@@ -41,4 +41,10 @@ pub fn law_one_run()
 /// A run that stands at a place fits there.
 pub fn law_run_fits()
     ensures { (run rest bytes : List ℕ) (at : ℕ) → length run < 2 ^ 32 → drop at bytes ≡ run_bytes run ++ rest → RunFits bytes at }
+{}
+
+/// A run that was put at a place is the one that stands there, whatever follows it.
+pub fn law_run_reads_back()
+    ensures { (run rest bytes : List ℕ) (at start end : ℕ) → length run < 2 ^ 32 → drop at bytes ≡ run_bytes run ++ rest → RunStandsAt bytes at start end
+        → (between start end bytes ≡ run) × (drop end bytes ≡ rest) }
 {}

@@ -13,5 +13,5 @@ returns-clause-found c =
     let same : to_z w128 (of_z w128 c.first_int.result) ≡ c.first_int.result = to_z-of_z w128 c.first_int.result (record { sfits = c.first_int.type_inv }) in
     let whole : take (length bytes - c.args.at) (drop c.args.at bytes) ≡ drop c.args.at bytes = take_all (length bytes - c.args.at) (drop c.args.at bytes) (omega (arith, length-drop c.args.at bytes)) in
     integer_stands c.args.kind (to_z w128 (of_z w128 c.first_int.result)) bytes c.args.at _
-      (ap (int_bytes c.args.kind) same ∙ c.first_int.ensures.bytes ∙ ap (take (width_of c.args.kind)) whole)
-      (omega (arith, width)) (omega (arith, width))
+    (ap (int_bytes c.args.kind) same ∙ c.first_int.ensures.bytes ∙ ap (take (width_of c.args.kind)) whole)
+    (omega (arith, width)) (omega (arith, width))
