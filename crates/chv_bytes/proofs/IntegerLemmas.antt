@@ -1,5 +1,5 @@
 -- Integers of eight kinds.
-use Rattle.std.proofs.Common.{◌≡◌, ℕ, ℤ, pos, negsuc, ◌+◌, ◌-◌, ◌^◌, ◌<◌, ◌≤◌, List, ◌++◌, length, take, drop, refl, sym, ap, ap₂, ◌∙◌, arith, inl, inr}
+use Rattle.std.proofs.Common.{◌≡◌, ℕ, ℤ, pos, negsuc, ◌+◌, ◌-◌, ◌^◌, ◌<◌, ◌≤◌, List, ◌++◌, length, take, drop, refl, sym, ap, ap₂, ◌∙◌, arith, rules, inl, inr}
 use Rattle.std.proofs.lemmas.Bool.{cases_lt, le-ltb, lt-ltb}
 use Rattle.std.proofs.lemmas.Int.{ints}
 use Rattle.std.proofs.lemmas.List.{drop-drop, take-append-drop, take-append-le, take_all}
@@ -10,7 +10,7 @@ use Rattle.chv_bytes.specs.Integers.{form_of, width_of, InRange, number_for, int
 use Rattle.chv_bytes.specs.Places.{AreBytes, StandsAt}
 use Rattle.chv_bytes.specs.declared.integer.IntKind.{IntKind}
 use Rattle.chv_bytes.specs.declared.integer.IntKind.TheVariants.{U8, U16, U32, U64, I8, I16, I32, I64}
-use Rattle.chv_bytes.proofs.NumberLemmas.{bytes_of_number}
+use Rattle.chv_bytes.proofs.NumberLemmas.{bytes_of_number, same_split}
 
 -- the lowest bytes of an integer of 16 bytes are its number
 pub low_bytes-number_for : (kind : IntKind) (v : ℤ) → InRange kind v → low_bytes w128 (width_of kind) v ≡ number_for (width_of kind) v
@@ -102,3 +102,17 @@ integer_stands kind v bytes at behind is next within =
       within = omega arith;
       spelled = sym (ap₂ (λ (x y : List ℕ). x ++ y) is rest ∙ take-append-drop (width_of kind) (drop at bytes));
     }
+
+-- what an integer is put as reads back as the integer
+pub integer_reads_back : (kind : IntKind) (v : ℤ) (rest : List ℕ) → InRange kind v → int_value kind (int_bytes kind v ++ rest) ≡ v
+integer_reads_back kind v rest h = search rules
+
+-- bytes begin with one integer of a kind at most
+pub one_integer : (kind : IntKind) (v w : ℤ) (x y : List ℕ) → InRange kind v → InRange kind w → int_bytes kind v ++ x ≡ int_bytes kind w ++ y → (v ≡ w) × (x ≡ y)
+one_integer kind v w x y of_v of_w same =
+    let long : length (int_bytes kind v) ≡ length (int_bytes kind w) =
+        length-bytes_low_first 0 (width_of kind) (number_for (width_of kind) v) ∙ sym (length-bytes_low_first 0 (width_of kind) (number_for (width_of kind) w)) in
+    (
+      sym (integer_reads_back kind v x of_v) ∙ ap (int_value kind) same ∙ integer_reads_back kind w y of_w,
+      (same_split (int_bytes kind v) (int_bytes kind w) x y long same).1,
+    )
