@@ -1,0 +1,5 @@
+pub mod Aggregates
+pub mod Kinds
+pub mod Order
+pub mod Texts
+pub mod Values
