@@ -1,5 +1,5 @@
 -- Kinds of values.
-use Rattle.std.specs.Prelude.{◌≡◌, ◌≤ℤ◌, ◌^◌, ◌-◌, ◌×◌, ℕ, ℤ, pos, neg_ℤ, List, codes, Option, Some, None, IsSome}
+use Rattle.std.specs.Prelude.{◌≡◌, ◌≤ℤ◌, ◌^◌, ◌-◌, ℕ, ℤ, pos, neg_ℤ, List, codes, Option, Some, None, IsSome}
 use Rattle.chv_types.specs.declared.kind.Kind.{Kind}
 use Rattle.chv_types.specs.declared.kind.Kind.TheVariants.{Plain, State}
 use Rattle.chv_types.specs.declared.kind.Scalar.{Scalar}

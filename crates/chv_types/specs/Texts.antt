@@ -1,5 +1,5 @@
 -- The values that texts write.
-use Rattle.std.specs.Prelude.{ℕ, ◌+◌, ◌-◌, ◌*◌, ℤ, pos, neg_ℤ, int_le, nat_lt, nat_le, ◌==◌, ◌&&◌, ◌||◌, ◌×◌, true, false, cond, List, [], ◌∷◌, length, codes, Option, Some, None}
+use Rattle.std.specs.Prelude.{ℕ, ◌+◌, ◌-◌, ◌*◌, ◌^◌, ℤ, Bool, pos, neg_ℤ, int_le, nat_lt, nat_le, ◌==◌, ◌&&◌, ◌||◌, true, false, cond, List, [], ◌∷◌, length, codes, Option, Some, None}
 use Rattle.std.specs.Char.{is_ascii_digit}
 use Rattle.std.specs.List.{fold, list_all}
 use Rattle.std.specs.Option.{option_map, option_and_then}
@@ -14,9 +14,21 @@ use Rattle.chv_types.specs.declared.value.Value.TheVariants.{Whole, Truth, Text}
 abbrev pub with_digit : ℕ → ℕ → ℕ
 with_digit n digit = 10 * n + (digit - 48)
 
+-- one decimal digit or more
+abbrev pub are_digits : List ℕ → Bool
+are_digits text = nat_lt 0 (length text) && list_all is_ascii_digit text
+
 -- the number of decimal digits, of which there is one at least
 unfoldable pub digits_number : List ℕ → Option ℕ
-digits_number text = cond (nat_lt 0 (length text) && list_all is_ascii_digit text) (Some (fold with_digit 0 text)) None
+digits_number text = cond (are_digits text) (Some (fold with_digit 0 text)) None
+
+-- a number that has 64 bits
+unfoldable pub small : ℕ → Option ℕ
+small n = cond (nat_lt n (2 ^ 64)) (Some n) None
+
+-- the number of decimal digits, where it has 64 bits
+abbrev pub small_number : List ℕ → Option ℕ
+small_number text = option_and_then small (digits_number text)
 
 -- the number of digits, or of a minus sign and digits
 abbrev pub signed_number : List ℕ → Option ℤ

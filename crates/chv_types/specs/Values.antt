@@ -1,5 +1,5 @@
 -- Values of kinds.
-use Rattle.std.specs.Prelude.{◌×◌, ◌≤◌, ℤ, pos, false, [], length}
+use Rattle.std.specs.Prelude.{◌≤◌, ℤ, pos, false, [], length}
 use Rattle.chv_types.specs.declared.kind.Kind.{Kind}
 use Rattle.chv_types.specs.declared.kind.Kind.TheVariants as kind
 use Rattle.chv_types.specs.declared.kind.Scalar.{Scalar}

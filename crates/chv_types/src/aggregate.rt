@@ -106,6 +106,7 @@ fn form_named(agg: AggName, name: &[u8]) -> Option<AggForm>
 }
 
 // Whether a name names the function in the form.
+#[tactic(auto, unfolding(crate::specs::Aggregates::is_agg_name), using(crate::proofs::Names::name_laws))]
 fn is_agg_name(agg: AggName, form: AggForm, name: &[u8]) -> bool
     ensures { result ≡ is_agg_name agg form name.now }
 {

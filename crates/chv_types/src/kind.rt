@@ -1,5 +1,5 @@
 // Kinds of values.
-ghost use Rattle.std.specs.Prelude.{◌≡◌, ◌⊎◌, ◌≢◌, ◌↔◌, IsTrue, IsNone, IfSome};
+ghost use Rattle.std.specs.Prelude.{◌≡◌, ◌≤ℤ◌, ◌⊎◌, ◌≢◌, ◌↔◌, IsTrue, IsNone, IfSome};
 ghost use Rattle.chv_types.specs.Kinds.{scalar_name, range_of, Widens};
 
 use crate::AggName;
@@ -118,9 +118,16 @@ fn widens_number(from: Scalar, to: Scalar) -> bool
 {
     match from.range() {
         Some((low, high)) => match to.range() {
-            Some((least, greatest)) => least <= low && high <= greatest,
+            Some((least, greatest)) => lies_within(low, high, least, greatest),
             None => false,
         },
         None => false,
     }
+}
+
+// Whether one range lies within another.
+fn lies_within(low: i128, high: i128, least: i128, greatest: i128) -> bool
+    ensures { IsTrue result ↔ ((least ≤ℤ low) × (high ≤ℤ greatest)) }
+{
+    least <= low && high <= greatest
 }
