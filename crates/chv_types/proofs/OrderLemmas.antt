@@ -5,7 +5,6 @@ use Rattle.std.specs.Ordering.{nat_cmp, int_cmp, bool_cmp, ordering_then}
 use Rattle.std.specs.declared.cmp.Ordering.{Ordering}
 use Rattle.std.specs.declared.cmp.Ordering.TheVariants.{Less, Equal, Greater}
 use Rattle.chv_types.specs.Order.{value_cmp}
-use Rattle.chv_types.specs.declared.value.Value.{Value}
 use Rattle.chv_types.specs.declared.value.Value.TheVariants.{Whole, Truth, Text, State}
 
 ordering_then-equal : (o : Ordering) → ordering_then o Equal ≡ o

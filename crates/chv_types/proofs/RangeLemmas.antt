@@ -1,5 +1,5 @@
 -- One integer kind has each number of another where its range holds that of the other.
-use Rattle.std.proofs.Common.{◌≡◌, ◌≤ℤ◌, ◌↔◌, ℤ, arith, rules, refl, Some, None, Option, subst, sym}
+use Rattle.std.proofs.Common.{◌≡◌, ◌≤ℤ◌, ◌↔◌, ℤ, arith, rules, Some, None, Option, subst}
 use Rattle.std.specs.Bool.{⊤}
 use Rattle.std.proofs.lemmas.Int.{ints}
 use Rattle.chv_types.specs.Kinds.{range_of, Widens}
@@ -37,4 +37,4 @@ pub Widens-ranges : (from to : Scalar) (low high least greatest : ℤ) → range
     → ((least ≤ℤ low) × (high ≤ℤ greatest)) ↔ Widens (Plain from) (Plain to)
 Widens-ranges from to low high least greatest e f =
     let both = within_by_numbers low high least greatest (filled from low high e) in
-    rw (e, f) ((λ h. (search rules, (search rules, both.0 h))), (λ w. both.1 w.1.1))
+    rw (e, f) ((λ h. (search rules, search rules, both.0 h)), (λ w. both.1 w.2))

@@ -1,5 +1,5 @@
 -- Kinds of values.
-use Rattle.std.specs.Prelude.{◌≡◌, ◌≤ℤ◌, ◌^◌, ◌-◌, ℕ, ℤ, pos, neg_ℤ, List, codes, Option, Some, None, IsSome}
+use Rattle.std.specs.Prelude.{◌≤ℤ◌, ◌^◌, ◌-◌, ℕ, ℤ, pos, neg_ℤ, List, codes, Option, Some, None, IsSome}
 use Rattle.chv_types.specs.declared.kind.Kind.{Kind}
 use Rattle.chv_types.specs.declared.kind.Kind.TheVariants.{Plain, State}
 use Rattle.chv_types.specs.declared.kind.Scalar.{Scalar}
@@ -18,10 +18,11 @@ scalar_name Int64 = codes "Int64"
 scalar_name Bool = codes "Bool"
 scalar_name Text = codes "String"
 
--- the numbers of so many bits without sign, and with one: the least and the greatest
+-- the least and the greatest number of so many bits without sign
 abbrev pub unsigned_range : ℕ → ℤ × ℤ
 unsigned_range bits = (pos 0, pos (2 ^ bits - 1))
 
+-- the least and the greatest number of so many bits with sign
 abbrev pub signed_range : ℕ → ℤ × ℤ
 signed_range bits = (neg_ℤ (pos (2 ^ (bits - 1))), pos (2 ^ (bits - 1) - 1))
 

@@ -1,5 +1,5 @@
 -- The order of values.
-use Rattle.std.specs.Prelude.{ℕ, ℤ, pos, Bool, true, false, List, []}
+use Rattle.std.specs.Prelude.{ℕ, ℤ, pos, true, false, List, []}
 use Rattle.std.specs.Cmp.Lexicographic.{slice_cmp}
 use Rattle.std.specs.Ordering.{nat_cmp, int_cmp, on, then_cmp}
 use Rattle.std.specs.declared.cmp.Ordering.{Ordering}

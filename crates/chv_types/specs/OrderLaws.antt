@@ -1,5 +1,5 @@
 -- The order of values is total, and values that it does not tell apart are identical.
-use Rattle.std.specs.Prelude.{◌≡◌, ℤ, List, true, false}
+use Rattle.std.specs.Prelude.{◌≡◌, true, false}
 use Rattle.std.specs.Cmp.{IsTotalOrder, then_total, on_total, nat_cmp_total, int_cmp_total}
 use Rattle.std.specs.Cmp.Lexicographic.{slice_cmp, nat_list_cmp_total}
 use Rattle.std.specs.FinMap.{IsAntisymmetric, nat_cmp-IsAntisymmetric, int_cmp-IsAntisymmetric, slice_cmp-IsAntisymmetric}

@@ -1,11 +1,11 @@
 -- Values of kinds.
-use Rattle.std.specs.Prelude.{◌≤◌, ℤ, pos, false, [], length}
+use Rattle.std.specs.Prelude.{pos, false, []}
 use Rattle.chv_types.specs.declared.kind.Kind.{Kind}
 use Rattle.chv_types.specs.declared.kind.Kind.TheVariants as kind
 use Rattle.chv_types.specs.declared.kind.Scalar.{Scalar}
 use Rattle.chv_types.specs.declared.kind.Scalar.TheVariants as scalar
 use Rattle.chv_types.specs.declared.value.Value.{Value}
-use Rattle.chv_types.specs.declared.value.Value.TheVariants.{Whole, Truth, Text, State}
+use Rattle.chv_types.specs.declared.value.Value.TheVariants.{Whole, Truth, Text}
 
 -- a kind of plain values
 abbrev pub IsPlain : Kind → Type 0

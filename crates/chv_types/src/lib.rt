@@ -2,6 +2,7 @@
 #![tactic(auto)]
 
 mod aggregate;
+mod duplicate;
 mod kind;
 mod order;
 mod table;
@@ -9,8 +10,12 @@ mod text;
 mod value;
 
 pub use aggregate::{AggForm, AggName, agg_named, result_kind};
+pub use duplicate::Duplicate;
 pub use kind::{Kind, Scalar, scalar_named, widens};
 pub use order::{compare, law_order};
 pub use table::{Block, Bytes, Column, Columns, Engine, Kinds, Places, Row};
 pub use text::{MAX_TEXT, TextFault, parse_text};
 pub use value::{Value, default_value};
+
+#[cfg(test)]
+mod tests;

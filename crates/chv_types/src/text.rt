@@ -1,8 +1,9 @@
 // Values that are read from texts.
 ghost use Rattle.std.specs.Prelude.{◌≡◌, ◌^◌, ◌<ℤ◌, pos, neg_ℤ, IfOk, IfErr, Some, None};
-ghost use Rattle.std.specs.List.{fold};
+ghost use Rattle.std.specs.Char.{is_ascii_digit};
+ghost use Rattle.std.specs.List.{fold, list_all};
 ghost use Rattle.std.specs.Option.{option_map, option_and_then};
-ghost use Rattle.chv_types.specs.Texts.{digits_number, small, small_number, with_digit, within, whole_of, truth_of, text_of, value_of};
+ghost use Rattle.chv_types.specs.Texts.{are_digits, digits_number, small, small_number, with_digit, within, whole_of, truth_of, text_of, value_of};
 
 use crate::{Bytes, Scalar, Value};
 use std::alloc::{AllocError, Global};
@@ -108,7 +109,7 @@ fn parse_minus(low: i128, high: i128, digits: &[u8]) -> Option<Value>
     ensures { result ≡ option_and_then (within (low, high)) (option_map (λ n. neg_ℤ (pos n)) (digits_number digits.now)) }
 {
     match small_number(digits) {
-        Some(n) => in_range(low, high, -i128::from(n)),
+        Some(n) => minus_in_range(low, high, n),
         None => None,
     }
 }
@@ -119,9 +120,23 @@ fn parse_plain(low: i128, high: i128, digits: &[u8]) -> Option<Value>
     ensures { result ≡ option_and_then (within (low, high)) (option_map pos (digits_number digits.now)) }
 {
     match small_number(digits) {
-        Some(n) => in_range(low, high, i128::from(n)),
+        Some(n) => plain_in_range(low, high, n),
         None => None,
     }
+}
+
+// A number with a `-`, where it lies from `low` to `high`.
+fn minus_in_range(low: i128, high: i128, n: u64) -> Option<Value>
+    ensures { result ≡ within (low, high) (neg_ℤ (pos n)) }
+{
+    in_range(low, high, -i128::from(n))
+}
+
+// A number without sign, where it lies from `low` to `high`.
+fn plain_in_range(low: i128, high: i128, n: u64) -> Option<Value>
+    ensures { result ≡ within (low, high) (pos n) }
+{
+    in_range(low, high, i128::from(n))
 }
 
 // A number from `low` to `high` as a value.
@@ -141,10 +156,24 @@ fn in_range(low: i128, high: i128, n: i128) -> Option<Value>
 fn small_number(text: &[u8]) -> Option<u64>
     ensures { result ≡ small_number text.now }
 {
-    if text.is_empty() || !text.iter().all(|byte| byte.is_ascii_digit()) {
+    if !are_digits(text) {
         return None;
     }
     decimal_number(text)
+}
+
+// Whether a text is one decimal digit or more.
+fn are_digits(text: &[u8]) -> bool
+    ensures { result ≡ are_digits text.now }
+{
+    !text.is_empty() && all_digits(text)
+}
+
+// Whether each byte is a decimal digit.
+fn all_digits(text: &[u8]) -> bool
+    ensures { result ≡ list_all is_ascii_digit text.now }
+{
+    text.iter().all(|byte| byte.is_ascii_digit())
 }
 
 // The number of these digits, where it has 64 bits.

@@ -1,5 +1,6 @@
-use Rattle.std.proofs.Common.{rules, sym, ◌∙◌}
-use Rattle.std.proofs.lemmas.Int.{to_z-of_z, SFits, w128}
+use Rattle.std.proofs.Common.{rules, sym, ◌∙◌, SFits}
+use Rattle.std.specs.Int.{w128}
+use Rattle.std.proofs.lemmas.Int.{to_z-of_z}
 use Rattle.chv_types.proofs.RangeLemmas.{Widens-ranges}
 use Rattle.chv_types.proofs.kind.widens_number.Goals as goal
 
@@ -11,5 +12,5 @@ returns-in-Some-range c =
     let greatest : SFits w128 c.in-Some-range.greatest = search rules in
     let within = simp to_z-of_z at c.lies_within.ensures in
     let both = Widens-ranges c.args.from c.args.to c.in-Some.low c.in-Some.high c.in-Some-range.least c.in-Some-range.greatest
-        (sym c.range.ensures ∙ c.in-Some.is) (sym c.range-in-Some.ensures ∙ c.in-Some-range.is) in
+    (sym c.range.ensures ∙ c.in-Some.is) (sym c.range-in-Some.ensures ∙ c.in-Some-range.is) in
     ((λ t. both.0 (within.0 t)), (λ w. within.1 (both.1 w)))
