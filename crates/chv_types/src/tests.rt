@@ -187,9 +187,10 @@ fn texts_write_bools_and_strings(rt: HostRuntime) -> Result<(), Fail> {
         }
     }
     for text in [b"".as_slice(), b"a\0\xff"] {
+        let expected = Value::Text(bytes(rt.alloc(), text)?);
         match parse_text(rt.alloc(), Scalar::Text, text) {
-            Ok(Value::Text(read)) => assert_eq!(rt; read.as_slice(), text),
-            _ => assert!(rt; false),
+            Ok(value) => assert_eq!(rt; compare(&value, &expected), Ordering::Equal),
+            Err(_) => assert!(rt; false),
         }
     }
     Ok(())
