@@ -1,0 +1,4 @@
+pub mod Names
+pub mod OrderLemmas
+pub mod RangeLemmas
+pub mod TextLemmas

@@ -1,0 +1,113 @@
+// The order of values.
+ghost use Rattle.std.specs.Prelude.{◌≡◌};
+ghost use Rattle.std.specs.Cmp.{IsTotalOrder};
+ghost use Rattle.std.specs.FinMap.{IsAntisymmetric};
+ghost use Rattle.chv_types.specs.Order.{value_cmp};
+
+use crate::Value;
+use std::cmp::Ordering;
+
+/// How two values stand to each other: within a kind numbers by value, false before true, texts and states by their bytes,
+/// a beginning before what it begins. Numbers stand before truths, truths before texts, and states last.
+#[tactic(auto, unfolding(crate::specs::Order::value_cmp), using(crate::proofs::OrderLemmas::value_laws))]
+pub fn compare(a: &Value, b: &Value) -> Ordering
+    ensures { result ≡ value_cmp a.now b.now }
+{
+    match a {
+        Value::Whole(a) => compare_whole(*a, b),
+        Value::Truth(a) => compare_truth(*a, b),
+        Value::Text(a) => match b {
+            Value::Text(b) => a.as_slice().cmp(b.as_slice()),
+            Value::State(_) => Ordering::Less,
+            _ => Ordering::Greater,
+        },
+        Value::State(a) => match b {
+            Value::State(b) => a.as_slice().cmp(b.as_slice()),
+            _ => Ordering::Greater,
+        },
+    }
+}
+
+// How a number stands to a value.
+#[tactic(auto, unfolding(crate::specs::Order::value_cmp), using(crate::proofs::OrderLemmas::value_laws))]
+fn compare_whole(a: i128, b: &Value) -> Ordering
+    ensures { result ≡ value_cmp (Value.Whole a) b.now }
+{
+    match b {
+        Value::Whole(b) => a.cmp(b),
+        _ => Ordering::Less,
+    }
+}
+
+// How a truth stands to a value.
+#[tactic(auto, unfolding(crate::specs::Order::value_cmp), using(crate::proofs::OrderLemmas::value_laws))]
+fn compare_truth(a: bool, b: &Value) -> Ordering
+    ensures { result ≡ value_cmp (Value.Truth a) b.now }
+{
+    match b {
+        Value::Whole(_) => Ordering::Greater,
+        Value::Truth(b) => a.cmp(b),
+        _ => Ordering::Less,
+    }
+}
+
+/// The order of values is total, and values that it does not tell apart are identical.
+pub fn law_order()
+    ensures total { IsTotalOrder value_cmp }
+    ensures identical { IsAntisymmetric value_cmp }
+{}
+
+impl PartialEq for Value {
+    ghost use Rattle.std.specs.Cmp.{partial_equiv_from_equiv, eq_by_cmp_equiv};
+    ghost use Rattle.std.specs.Ordering.{eq_by_cmp};
+    ghost use Rattle.chv_types.specs.Order.{value_cmp};
+    ghost use Rattle.chv_types.specs.OrderLaws.{value_cmp_total};
+
+    ghost eq = { eq_by_cmp value_cmp };
+
+    ghost laws = { partial_equiv_from_equiv (eq_by_cmp_equiv value_cmp_total) };
+
+    fn eq(&self, other: &Value) -> bool {
+        compare(self, other).is_eq()
+    }
+}
+
+impl Eq for Value {
+    ghost use Rattle.std.specs.Cmp.{eq_by_cmp_equiv};
+    ghost use Rattle.chv_types.specs.OrderLaws.{value_cmp_total};
+
+    ghost laws = { eq_by_cmp_equiv value_cmp_total };
+}
+
+impl PartialOrd for Value {
+    ghost use Rattle.std.specs.Cmp.{partial_order_from_total};
+    ghost use Rattle.std.specs.Ordering.{as_partial_cmp};
+    ghost use Rattle.chv_types.specs.Order.{value_cmp};
+    ghost use Rattle.chv_types.specs.OrderLaws.{value_cmp_total};
+
+    ghost partial_cmp = { as_partial_cmp value_cmp };
+
+    ghost laws = { partial_order_from_total value_cmp_total };
+
+    fn partial_cmp(&self, other: &Value) -> Option<Ordering> {
+        Some(compare(self, other))
+    }
+}
+
+impl Ord for Value {
+    ghost use Rattle.std.proofs.Common.{refl};
+    ghost use Rattle.chv_types.specs.Order.{value_cmp};
+    ghost use Rattle.chv_types.specs.OrderLaws.{value_cmp_total};
+
+    ghost cmp = { value_cmp };
+
+    ghost total = { value_cmp_total };
+
+    ghost matches_partial_cmp = { λ a b. refl };
+
+    ghost matches_eq = { λ a b. refl };
+
+    fn cmp(&self, other: &Value) -> Ordering {
+        compare(self, other)
+    }
+}

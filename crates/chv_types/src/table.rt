@@ -1,0 +1,34 @@
+// Columns and rows of tables.
+use crate::{Kind, Value};
+use chv_ast::Seq;
+
+/// Bytes in order.
+pub type Bytes = Seq<u8>;
+/// The values of a row, one for each column.
+pub type Row = Seq<Value>;
+/// Rows in order.
+pub type Block = Seq<Row>;
+/// The columns of a table, in order.
+pub type Columns = Seq<Column>;
+/// The kinds of columns, in order.
+pub type Kinds = Seq<Kind>;
+/// Places of columns, counted from 0.
+pub type Places = Seq<u32>;
+
+/// A column of a table.
+#[derive(Debug, Drop)]
+pub struct Column {
+    /// Its name, without backquotes.
+    pub name: Bytes,
+    /// The kind of its values.
+    pub kind: Kind,
+}
+
+/// What a merge does with the rows of a table.
+#[derive(Clone, Copy, Debug, PartialEq, Eq)]
+pub enum Engine {
+    /// It keeps all rows, in the order of the key.
+    MergeTree,
+    /// It makes the rows of each key one, whose states are the merge of theirs.
+    Aggregating,
+}
