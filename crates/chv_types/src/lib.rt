@@ -12,7 +12,7 @@ mod value;
 pub use aggregate::{AggForm, AggName, agg_named, result_kind};
 pub use duplicate::Duplicate;
 pub use kind::{Kind, Scalar, scalar_named, widens};
-pub use order::{compare, law_order};
+pub use order::{compare, law_order, law_order_within_kinds};
 pub use table::{Block, Bytes, Column, Columns, Engine, Kinds, Places, Row};
 pub use text::{MAX_TEXT, TextFault, parse_text};
 pub use value::{Value, default_value};

@@ -1,7 +1,9 @@
 // The order of values.
-ghost use Rattle.std.specs.Prelude.{◌≡◌};
+ghost use Rattle.std.specs.Prelude.{◌≡◌, ℕ, ℤ, Bool, List};
 ghost use Rattle.std.specs.Cmp.{IsTotalOrder};
+ghost use Rattle.std.specs.Cmp.Lexicographic.{slice_cmp};
 ghost use Rattle.std.specs.FinMap.{IsAntisymmetric};
+ghost use Rattle.std.specs.Ordering.{nat_cmp, int_cmp, bool_cmp};
 ghost use Rattle.chv_types.specs.Order.{value_cmp};
 
 use crate::Value;
@@ -55,6 +57,14 @@ fn compare_truth(a: bool, b: &Value) -> Ordering
 pub fn law_order()
     ensures total { IsTotalOrder value_cmp }
     ensures identical { IsAntisymmetric value_cmp }
+{}
+
+/// Within a kind numbers are ordered by value, false before true, texts and states by their bytes.
+pub fn law_order_within_kinds()
+    ensures whole { (m n : ℤ) → value_cmp (Value.Whole m) (Value.Whole n) ≡ int_cmp m n }
+    ensures truth { (a b : Bool) → value_cmp (Value.Truth a) (Value.Truth b) ≡ bool_cmp a b }
+    ensures text { (a b : List ℕ) → value_cmp (Value.Text a) (Value.Text b) ≡ slice_cmp nat_cmp a b }
+    ensures state { (a b : List ℕ) → value_cmp (Value.State a) (Value.State b) ≡ slice_cmp nat_cmp a b }
 {}
 
 impl PartialEq for Value {
