@@ -79,30 +79,30 @@ value_spelling (kind.Plain plain) value = scalar_spelling plain value
 value_spelling (kind.State agg plain) value = []
 
 -- the values of a row are of the kinds of its columns
-pub AreOf : List Kind → List Value → Type 0
+abbrev pub AreOf : List Kind → List Value → Type 0
 AreOf [] [] = Unit {0}
 AreOf [] (value ∷ values) = ⊥
 AreOf (kind ∷ kinds) [] = ⊥
 AreOf (kind ∷ kinds) (value ∷ values) = IsOf kind value × AreOf kinds values
 
 -- a row: its values in the order of the columns
-pub row_spelling : List Kind → List Value → List ℕ
+abbrev pub row_spelling : List Kind → List Value → List ℕ
 row_spelling [] values = []
 row_spelling (kind ∷ kinds) [] = []
 row_spelling (kind ∷ kinds) (value ∷ values) = value_spelling kind value ++ row_spelling kinds values
 
 -- each row has values of the kinds of the columns
-pub AllAreOf : List Kind → List (List Value) → Type 0
+abbrev pub AllAreOf : List Kind → List (List Value) → Type 0
 AllAreOf kinds [] = Unit {0}
 AllAreOf kinds (row ∷ rows) = AreOf kinds row × AllAreOf kinds rows
 
 -- rows one behind the other
-pub rows_spelling : List Kind → List (List Value) → List ℕ
+abbrev pub rows_spelling : List Kind → List (List Value) → List ℕ
 rows_spelling kinds [] = []
 rows_spelling kinds (row ∷ rows) = row_spelling kinds row ++ rows_spelling kinds rows
 
 -- the codes of kinds one behind the other
-pub codes_of : List Kind → List ℕ
+abbrev pub codes_of : List Kind → List ℕ
 codes_of [] = []
 codes_of (kind ∷ kinds) = kind_code kind ++ codes_of kinds
 

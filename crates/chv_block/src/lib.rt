@@ -1,10 +1,12 @@
 //! Values and blocks in bytes: each has one spelling, and each spelling is of one value.
 #![tactic(auto)]
 
+mod block;
 mod laws;
 mod read;
 mod spell;
 
+pub use block::block_bytes;
 pub use laws::law_value_reads_back;
 pub use read::read_value;
 pub use spell::spell_value;
