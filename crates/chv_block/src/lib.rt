@@ -11,3 +11,5 @@ pub use laws::{law_block_reads_back, law_row_reads_back, law_value_reads_back};
 pub use read::read_value;
 pub use spell::spell_value;
 
+#[cfg(test)]
+mod tests;
