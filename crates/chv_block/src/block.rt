@@ -1,0 +1,104 @@
+// Blocks in bytes.
+ghost use Rattle.std.specs.Prelude.{◌≡◌, ◌++◌, ◌∷◌, [], length, IfOk, OnOk};
+ghost use Rattle.std.specs.Int.{to_le_bytes, w32, w64};
+ghost use Rattle.std.specs.List.{All};
+ghost use Rattle.chv_types.specs.Values.{IsPlain};
+ghost use Rattle.chv_block.specs.Spellings.{AreOf, AllAreOf, scalar_code, kind_code, codes_of, row_spelling, rows_spelling, block_spelling};
+
+use crate::spell_value;
+use chv_types::{Block, Bytes, Kind, Kinds, Row, Scalar, Value};
+use std::alloc::{AllocError, Global};
+
+// The bytes of a number of columns.
+const COLUMNS_BYTES: usize = 4;
+
+/// The canonical bytes of a block: its kinds behind their number, and its rows behind theirs.
+///
+/// Each row has a value of each kind, in the order of the kinds.
+pub fn block_bytes(alloc: Global, kinds: &Kinds, block: &Block) -> Result<Bytes, AllocError>
+    requires plain { All IsPlain kinds.now }
+    requires rows { AllAreOf kinds.now block.now }
+    ensures { IfOk result (λ bytes. bytes ≡ block_spelling kinds.now block.now) }
+{
+    let mut out = Vec::new(alloc);
+    put_columns(&mut out, kinds.len())?;
+    put_codes(&mut out, kinds.as_slice())?;
+    let rows = block.len() as u64;
+    out.extend_from_slice(&rows.to_le_bytes())?;
+    put_rows(&mut out, kinds.as_slice(), block.as_slice())?;
+    Ok(Bytes::of_items(out))
+}
+
+// Puts the number of columns behind `out`.
+fn put_columns(out: &mut Vec<u8>, columns: usize) -> Result<(), AllocError>
+    ensures { OnOk result (out.new.items ≡ out.old.items ++ to_le_bytes w32 columns) }
+{
+    let bytes = (columns as u64).to_le_bytes();
+    out.extend_from_slice(&bytes[..COLUMNS_BYTES])
+}
+
+// Puts the codes of kinds behind `out`.
+fn put_codes(out: &mut Vec<u8>, kinds: &[Kind]) -> Result<(), AllocError>
+    requires plain { All IsPlain kinds.now }
+    ensures { OnOk result (out.new.items ≡ out.old.items ++ codes_of kinds.now) }
+{
+    for i in 0..kinds.len() {
+        let code = [code_of(kinds[i])];
+        out.extend_from_slice(&code)?;
+    }
+    Ok(())
+}
+
+// The code of a kind.
+fn code_of(kind: Kind) -> u8
+    requires plain { IsPlain kind }
+    ensures { result ∷ [] ≡ kind_code kind }
+{
+    match kind {
+        Kind::Plain(scalar) => code_of_scalar(scalar),
+        Kind::State(..) => {
+            prove!(false);
+            0
+        }
+    }
+}
+
+// The code of a kind of plain values.
+fn code_of_scalar(scalar: Scalar) -> u8
+    ensures { result ≡ scalar_code scalar }
+{
+    match scalar {
+        Scalar::UInt8 => 1,
+        Scalar::UInt16 => 2,
+        Scalar::UInt32 => 3,
+        Scalar::UInt64 => 4,
+        Scalar::Int8 => 5,
+        Scalar::Int16 => 6,
+        Scalar::Int32 => 7,
+        Scalar::Int64 => 8,
+        Scalar::Bool => 9,
+        Scalar::Text => 10,
+    }
+}
+
+// Puts rows behind `out`.
+fn put_rows(out: &mut Vec<u8>, kinds: &[Kind], rows: &[Row]) -> Result<(), AllocError>
+    requires rows { AllAreOf kinds.now rows.now }
+    ensures { OnOk result (out.new.items ≡ out.old.items ++ rows_spelling kinds.now rows.now) }
+{
+    for i in 0..rows.len() {
+        put_row(out, kinds, rows[i].as_slice())?;
+    }
+    Ok(())
+}
+
+// Puts the values of a row behind `out`.
+fn put_row(out: &mut Vec<u8>, kinds: &[Kind], row: &[Value]) -> Result<(), AllocError>
+    requires row { AreOf kinds.now row.now }
+    ensures { OnOk result (out.new.items ≡ out.old.items ++ row_spelling kinds.now row.now) }
+{
+    for i in 0..row.len() {
+        spell_value(kinds[i], &row[i], out)?;
+    }
+    Ok(())
+}
