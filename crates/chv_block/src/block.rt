@@ -21,12 +21,20 @@ pub fn block_bytes(alloc: Global, kinds: &Kinds, block: &Block) -> Result<Bytes,
     ensures { IfOk result (λ bytes. bytes ≡ block_spelling kinds.now block.now) }
 {
     let mut out = Vec::new(alloc);
-    put_columns(&mut out, kinds.len())?;
-    put_codes(&mut out, kinds.as_slice())?;
+    put_kinds(&mut out, kinds.as_slice())?;
     let rows = block.len() as u64;
     out.extend_from_slice(&rows.to_le_bytes())?;
     put_rows(&mut out, kinds.as_slice(), block.as_slice())?;
     Ok(Bytes::of_items(out))
+}
+
+/// Puts the kinds of columns behind `out`: how many there are, in 4 bytes, and the code of each.
+pub fn put_kinds(out: &mut Vec<u8>, kinds: &[Kind]) -> Result<(), AllocError>
+    requires plain { All IsPlain kinds.now }
+    ensures { OnOk result (out.new.items ≡ out.old.items ++ to_le_bytes w32 (length kinds.now) ++ codes_of kinds.now) }
+{
+    put_columns(out, kinds.len())?;
+    put_codes(out, kinds)
 }
 
 // Puts the number of columns behind `out`.

@@ -6,7 +6,7 @@ mod laws;
 mod read;
 mod spell;
 
-pub use block::block_bytes;
+pub use block::{block_bytes, put_kinds};
 pub use laws::{law_block_reads_back, law_row_reads_back, law_value_reads_back};
 pub use read::read_value;
 pub use spell::spell_value;

@@ -1,0 +1,12 @@
+//! The schema: the tables that stand, and their names.
+#![tactic(auto)]
+
+mod names;
+mod schema;
+mod table_def;
+
+pub use schema::Schema;
+pub use table_def::TableDef;
+
+#[cfg(test)]
+mod tests;

@@ -1,0 +1,4 @@
+pub mod DefinitionLemmas
+pub mod KindLemmas
+pub mod ListLemmas
+pub mod Steps

@@ -1,0 +1,14 @@
+use Rattle.std.proofs.Common.{rules, tests, ◌∙◌, is_none, ◌&&◌, not}
+use Rattle.std.proofs.lemmas.Iterator.{YieldsList-from_slice}
+use Rattle.std.proofs.lemmas.Iterator.Search.{any_from_yields_List}
+use Rattle.chv_catalog.specs.Schemas.{place_of}
+use Rattle.chv_types.specs.declared.table.Column.{Column}
+use Rattle.chv_define.specs.Definitions.{is_state}
+use Rattle.chv_define.proofs.ListLemmas.{has_loose-any}
+use Rattle.chv_define.proofs.checks.has_loose.Goals as goal
+
+pub returns : goal.returns
+returns c =
+    any_from_yields_List (λ (column : Column). is_none (place_of column.name c.args.key.now) && not (is_state column.kind)) _ _ _ c.any.ensures.ran
+    (YieldsList-from_slice c.args.made.now cc) (λ x b q k. search (rules, tests))
+    ∙ has_loose-any c.args.key.now c.args.made.now

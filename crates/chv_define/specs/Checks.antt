@@ -1,0 +1,41 @@
+-- The checks of a definition, in groups.
+use Rattle.std.specs.Prelude.{ℕ, not, ◌&&◌, nat_lt, List, length, map, is_some, Option, Result, Ok}
+use Rattle.std.specs.List.{list_any}
+use Rattle.chv_ast.specs.declared.refusal.Refusal.{Refusal}
+use Rattle.chv_ast.specs.declared.refusal.Refusal.TheVariants.{UnknownColumn, NameTaken, TypeMismatch, ColumnNotMergeable, LimitPassed}
+use Rattle.chv_ast.specs.declared.statement.ColumnDef.{ColumnDef}
+use Rattle.chv_ast.specs.declared.statement.EngineWord.{EngineWord}
+use Rattle.chv_ast.specs.declared.statement.Statement.{Statement}
+use Rattle.chv_catalog.specs.Schemas.{names_of, place_of}
+use Rattle.chv_catalog.specs.declared.table_def.TableDef.{TableDef}
+use Rattle.chv_define.specs.Definitions.{has_loose, has_repeat, has_state, is_aggregating, is_unknown, refuse_if, window_of}
+use Rattle.chv_print.specs.StatementTexts.{statement_text}
+use Rattle.chv_types.specs.declared.table.Column.{Column}
+
+-- the names of columns
+abbrev pub column_names : List ColumnDef → List (List ℕ)
+column_names columns = map (λ column. column.name) columns
+
+-- the checks in front of the columns' kinds
+unfoldable pub checked_names : List TableDef → List ℕ → List ColumnDef → Result (Unit {0}) Refusal
+checked_names tables name columns =
+    refuse_if (is_some (place_of name (names_of tables))) NameTaken
+    (refuse_if (not (nat_lt (length tables) 256)) LimitPassed
+    (refuse_if (nat_lt 64 (length columns)) LimitPassed
+    (refuse_if (has_repeat (column_names columns)) NameTaken (Ok tt))))
+
+-- the checks of the key and the engine, where the columns are made
+unfoldable pub checked_key : List ColumnDef → List Column → EngineWord → List (List ℕ) → Result (Unit {0}) Refusal
+checked_key columns made engine key =
+    refuse_if (list_any (is_unknown (column_names columns)) key) UnknownColumn
+    (refuse_if (has_repeat key) NameTaken
+    (refuse_if (has_state key made) TypeMismatch
+    (refuse_if (is_aggregating engine && has_loose key made) ColumnNotMergeable (Ok tt))))
+
+-- how many ids are kept, where it is not too many
+unfoldable pub checked_window : Option (List ℕ) → Result ℕ Refusal
+checked_window window = refuse_if (nat_lt 100000 (window_of window)) LimitPassed (Ok (window_of window))
+
+-- the check of the canonical text
+unfoldable pub checked_text : Statement → Result (Unit {0}) Refusal
+checked_text s = refuse_if (nat_lt 1048576 (length (statement_text s))) LimitPassed (Ok tt)

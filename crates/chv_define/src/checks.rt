@@ -1,0 +1,135 @@
+// The checks of a definition, in order.
+ghost use Rattle.std.specs.Prelude.{◌≡◌, ◌≤◌, ◌<◌, length, is_some, Ok, Err, OnOk, IfOk, IfErr, IfSome, IsNone};
+ghost use Rattle.chv_ast.specs.declared.refusal.Refusal.{Refusal};
+ghost use Rattle.chv_catalog.specs.Schemas.{place_of};
+ghost use Rattle.chv_define.specs.Checks.{checked_key, checked_names, checked_text, checked_window};
+ghost use Rattle.chv_define.specs.Definitions as spec;
+
+use crate::DefineFault;
+use crate::names::{has_repeat, has_unknown, place};
+use chv_ast::{ColumnDefs, Digits, EngineWord, Name, Names, Refusal, Statement};
+use chv_catalog::Schema;
+use chv_print::statement_text;
+use chv_types::{Column, Columns, Kind};
+use std::alloc::Global;
+
+/// The most tables and views that stand.
+const MAX_DEFINITIONS: u32 = 256;
+/// The most columns of a table.
+const MAX_COLUMNS: usize = 64;
+/// The most ids that a table keeps.
+const MAX_WINDOW: u32 = 100_000;
+/// The most bytes of a definition's canonical text.
+const MAX_TEXT: usize = 1_048_576;
+
+// A check that refuses where something is bad.
+fn refuse_if(bad: bool, refusal: Refusal) -> Result<(), Refusal>
+    ensures { result ≡ spec.refuse_if bad refusal (Ok tt) }
+{
+    if bad { Err(refusal) } else { Ok(()) }
+}
+
+/// The name is free, there is room for a definition, and there are 64 columns at most, whose names differ.
+#[tactic(auto, unfolding(crate::specs::Checks::checked_names))]
+pub fn check_names(schema: &Schema, name: &Name, columns: &ColumnDefs) -> Result<(), Refusal>
+    ensures checked { result ≡ checked_names schema.now.tables name.now columns.now }
+    ensures few { IfOk result (λ _. length columns.now ≤ 64) }
+{
+    refuse_if(schema.taken(name.as_slice()), Refusal::NameTaken)?;
+    refuse_if(schema.tables() >= MAX_DEFINITIONS, Refusal::LimitPassed)?;
+    refuse_if(columns.len() > MAX_COLUMNS, Refusal::LimitPassed)?;
+    refuse_if(has_repeat(columns.as_slice()), Refusal::NameTaken)
+}
+
+/// The names of the key are those of columns and differ, and none is that of a state; where the engine aggregates, each
+/// column is in the key or a state.
+#[tactic(auto, unfolding(crate::specs::Checks::checked_key))]
+pub fn check_key(
+    columns: &ColumnDefs,
+    made: &Columns,
+    engine: EngineWord,
+    key: &Names,
+) -> Result<(), Refusal>
+    ensures { result ≡ checked_key columns.now made.now engine key.now }
+{
+    let (key, made) = (key.as_slice(), made.as_slice());
+    refuse_if(has_unknown(columns.as_slice(), key), Refusal::UnknownColumn)?;
+    refuse_if(has_repeat(key), Refusal::NameTaken)?;
+    refuse_if(has_state(key, made), Refusal::TypeMismatch)?;
+    refuse_if(
+        engine == EngineWord::AggregatingMergeTree && has_loose(key, made),
+        Refusal::ColumnNotMergeable,
+    )
+}
+
+/// The canonical text is 1,048,576 bytes long at most.
+#[tactic(auto, unfolding(crate::specs::Checks::checked_text))]
+pub fn check_text(alloc: Global, s: &Statement) -> Result<(), DefineFault>
+    ensures short { OnOk result (checked_text s.now ≡ Ok tt) }
+    ensures long { IfErr result (λ fault. (refusal : Refusal) → fault ≡ DefineFault.Refused refusal → checked_text s.now ≡ Err refusal) }
+{
+    let text = statement_text(alloc, s)?;
+    if text.len() > MAX_TEXT {
+        return Err(DefineFault::Refused(Refusal::LimitPassed));
+    }
+    Ok(())
+}
+
+/// How many ids are kept, where a number is written: 100,000 at most.
+#[tactic(auto, unfolding(crate::specs::Checks::checked_window))]
+pub fn window_of(window: &Option<Digits>) -> Result<u32, Refusal>
+    ensures { result ≡ checked_window window.now }
+{
+    match window {
+        Some(digits) => small_number(digits.as_slice()).ok_or(Refusal::LimitPassed),
+        None => Ok(0),
+    }
+}
+
+// The number of digits, where it is 100,000 at most.
+fn small_number(digits: &[u8]) -> Option<u32>
+    ensures number { IfSome result (λ n. (n ≡ spec.number_of digits.now) × (n ≤ 100000)) }
+    ensures great { IsNone result → 100000 < spec.number_of digits.now }
+{
+    let mut n: u32 = 0;
+    for digit in digits {
+        n = 10 * n + u32::from(digit.saturating_sub(b'0'));
+        if n > MAX_WINDOW {
+            return None;
+        }
+    }
+    Some(n)
+}
+
+// Whether a column of the key is a state.
+fn has_state(key: &[Name], made: &[Column]) -> bool
+    ensures { result ≡ spec.has_state key.now made.now }
+{
+    made.iter()
+        .any(|column| is_in(key, column) && is_state(column.kind))
+}
+
+// Whether a column is neither in the key nor a state.
+fn has_loose(key: &[Name], made: &[Column]) -> bool
+    ensures { result ≡ spec.has_loose key.now made.now }
+{
+    made.iter()
+        .any(|column| !is_in(key, column) && !is_state(column.kind))
+}
+
+// Whether a column is in the key.
+fn is_in(key: &[Name], column: &Column) -> bool
+    ensures { result ≡ is_some (place_of column.now.name key.now) }
+{
+    place(key, column.name.as_slice()).is_some()
+}
+
+// Whether a kind is one of states.
+fn is_state(kind: Kind) -> bool
+    ensures { result ≡ spec.is_state kind }
+{
+    match kind {
+        Kind::Plain(_) => false,
+        Kind::State(..) => true,
+    }
+}

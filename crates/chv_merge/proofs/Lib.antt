@@ -1,0 +1,2 @@
+pub mod NormalFormLemmas
+pub mod SortingLemmas

@@ -1,0 +1,63 @@
+// Normal forms.
+ghost use Rattle.std.specs.Prelude.{◌≡◌, IfOk, length, nat_lt};
+ghost use Rattle.chv_merge.specs.NormalForms.{key_cmp, normal_form, row_cmp, values_at};
+
+use chv_types::{Block, Places, Row, compare};
+use std::alloc::AllocError;
+use std::cmp::Ordering;
+
+/// All rows of a block, in the order of the values at the places of `key`, and where these are the same, of all values.
+///
+/// A place of no column is passed over. With no places the rows go by all their values.
+pub fn normal(key: &Places, block: Block) -> Result<Block, AllocError>
+    ensures { IfOk result (λ rows. rows ≡ normal_form key.now block) }
+{
+    let mut rows = block.into_items();
+    rows.sort_by(|a, b| order(key, a, b))?;
+    Ok(Block::of_items(rows))
+}
+
+// The order of two rows.
+#[tactic(auto, unfolding(crate::specs::NormalForms::key_cmp))]
+fn order(key: &Places, a: &Row, b: &Row) -> Ordering
+    ensures { result ≡ key_cmp key.now a.now b.now }
+{
+    match order_at(key.as_slice(), a, b) {
+        Ordering::Equal => a.as_slice().cmp(b.as_slice()),
+        found => found,
+    }
+}
+
+// The order of the values that two rows have at the places of a key.
+fn order_at(key: &[u32], a: &Row, b: &Row) -> Ordering
+    ensures { result ≡ row_cmp (values_at key.now a.now) (values_at key.now b.now) }
+{
+    let mut i = 0;
+    let mut j = 0;
+    while i < key.len() && j < key.len() {
+        match (a.get(key[i] as usize), b.get(key[j] as usize)) {
+            (Some(x), Some(y)) => match compare(x, y) {
+                Ordering::Equal => {
+                    i += 1;
+                    j += 1;
+                }
+                found => return found,
+            },
+            (None, _) => i += 1,
+            (_, None) => j += 1,
+        }
+    }
+    has_value(&key[i..], a).cmp(&has_value(&key[j..], b))
+}
+
+// Whether a row has a value at one of the places.
+fn has_value(places: &[u32], row: &Row) -> bool
+    ensures { result ≡ nat_lt 0 (length (values_at places.now row.now)) }
+{
+    for place in places {
+        if row.get(*place as usize).is_some() {
+            return true;
+        }
+    }
+    false
+}
