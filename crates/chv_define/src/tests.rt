@@ -119,6 +119,32 @@ fn accept_many(alloc: Global, schema: &mut Schema, count: u32) -> Result<(), All
     Ok(())
 }
 
+// The number of the refusal of `name|columns|key`.
+fn told(
+    alloc: Global,
+    schema: &Schema,
+    row: &str,
+    engine: EngineWord,
+    window: &str,
+) -> Result<u8, AllocError> {
+    let Some((name, rest)) = row.split_once('|') else {
+        return Ok(98);
+    };
+    let Some((of, key)) = rest.split_once('|') else {
+        return Ok(98);
+    };
+    let name = bytes(alloc, name.as_bytes())?;
+    let s = table(alloc, name, columns(alloc, of)?, engine, key, window)?;
+    Ok(code(alloc, schema, &s))
+}
+
+// The number of the refusal of a table with so many columns.
+fn told_many(alloc: Global, schema: &Schema, name: Name, count: u8) -> Result<u8, AllocError> {
+    let columns = many(alloc, count)?;
+    let s = table(alloc, name, columns, PLAIN, "", "")?;
+    Ok(code(alloc, schema, &s))
+}
+
 const PLAIN: EngineWord = EngineWord::MergeTree;
 
 const AGG: EngineWord = EngineWord::AggregatingMergeTree;
@@ -129,65 +155,81 @@ fn the_first_check_that_holds_refuses(rt: HostRuntime) -> Result<(), Fail> {
     let mut schema = Schema::new(rt.alloc());
     accept_many(rt.alloc(), &mut schema, 98)?;
     let cases = [
-        ("a", "a:Nope a:Nope", PLAIN, "x", "100001", 4),
-        ("t", "a:Nope a:Nope", PLAIN, "x", "100001", 4),
-        ("t", "a:Nope b:avg/UInt8", PLAIN, "x", "100001", 6),
-        ("t", "a:avg/UInt8 b:Nope", PLAIN, "x", "100001", 5),
-        ("t", "a:uint8", PLAIN, "x", "100001", 6),
-        ("t", "a:sum/String", PLAIN, "x", "100001", 6),
-        ("t", "a:sum/Nope", PLAIN, "x", "100001", 6),
-        ("t", "a:sum/", PLAIN, "x", "100001", 6),
-        ("t", "a:count/UInt64", PLAIN, "x", "100001", 6),
-        ("t", "a:sumState/UInt8", PLAIN, "x", "100001", 5),
-        ("t", "a:uniqexact/UInt8", PLAIN, "x", "100001", 5),
-        ("t", "a:UInt8 s:SUM/UInt8", AGG, "s s x", "100001", 3),
-        ("t", "a:UInt8 s:SUM/UInt8", AGG, "s s", "100001", 4),
-        ("t", "a:UInt8 s:SUM/UInt8", AGG, "s", "100001", 6),
-        ("t", "a:UInt8 b:Bool s:SUM/UInt8", AGG, "b", "100001", 13),
-        ("t", "a:UInt8 b:Bool s:SUM/UInt8", PLAIN, "b", "100001", 15),
-        ("t", "a:UInt8", PLAIN, "a", "1000000000000000000000000", 15),
-        ("t", "a:UInt8 b:Bool s:SUM/UInt8", PLAIN, "b", "100000", 0),
-        ("t", "a:UInt8 s:uniqExact/String", AGG, "a", "100000", 0),
-        ("t", "c:count/", AGG, "", "", 0),
+        ("a|a:Nope a:Nope|x", PLAIN, 4),
+        ("t|a:Nope a:Nope|x", PLAIN, 4),
+        ("t|a:Nope b:avg/UInt8|x", PLAIN, 6),
+        ("t|a:avg/UInt8 b:Nope|x", PLAIN, 5),
+        ("t|a:uint8|x", PLAIN, 6),
+        ("t|a:sum/String|x", PLAIN, 6),
+        ("t|a:sum/|x", PLAIN, 6),
+        ("t|a:count/UInt64|x", PLAIN, 6),
+        ("t|a:sumState/UInt8|x", PLAIN, 5),
+        ("t|a:uniqexact/UInt8|x", PLAIN, 5),
+        ("t|a:UInt8 b:Bool s:SUM/UInt8|s s x", AGG, 3),
+        ("t|a:UInt8 b:Bool s:SUM/UInt8|s s", AGG, 4),
+        ("t|a:UInt8 b:Bool s:SUM/UInt8|s", AGG, 6),
+        ("t|a:UInt8 b:Bool s:SUM/UInt8|b", AGG, 13),
+        ("t|a:UInt8 b:Bool s:SUM/UInt8|b", PLAIN, 15),
     ];
-    for (name, of, engine, key, window, expected) in cases {
-        let columns = columns(rt.alloc(), of)?;
-        let name = bytes(rt.alloc(), name.as_bytes())?;
-        let s = table(rt.alloc(), name, columns, engine, key, window)?;
-        assert_eq!(rt; code(rt.alloc(), &schema, &s), expected, "{of}");
+    for (row, engine, expected) in cases {
+        assert_eq!(rt;
+            told(rt.alloc(), &schema, row, engine, "100001")?,
+            expected,
+            "{row}"
+        );
     }
     assert_eq!(rt; code(rt.alloc(), &schema, &Statement::FlushQueue), 15);
     Ok(())
 }
 
 #[test]
-fn limits_are_passed(rt: HostRuntime) -> Result<(), Fail> {
-    let mut schema = Schema::new(rt.alloc());
-    for (count, expected) in [(64, 0), (65, 15)] {
-        let columns = many(rt.alloc(), count)?;
-        let s = table(rt.alloc(), bytes(rt.alloc(), b"t")?, columns, PLAIN, "", "")?;
-        assert_eq!(rt; code(rt.alloc(), &schema, &s), expected);
+fn a_window_has_100_000_ids_at_most(rt: HostRuntime) -> Result<(), Fail> {
+    let schema = Schema::new(rt.alloc());
+    let cases = [
+        ("", 0),
+        ("100000", 0),
+        ("100001", 15),
+        ("1000000000000000000000000", 15),
+    ];
+    for (window, expected) in cases {
+        assert_eq!(rt;
+            told(rt.alloc(), &schema, "t|a:UInt8|a", PLAIN, window)?,
+            expected
+        );
     }
+    Ok(())
+}
+
+#[test]
+fn a_table_has_64_columns_at_most(rt: HostRuntime) -> Result<(), Fail> {
+    let schema = Schema::new(rt.alloc());
+    for (count, expected) in [(64, 0), (65, 15)] {
+        let name = bytes(rt.alloc(), b"t")?;
+        assert_eq!(rt; told_many(rt.alloc(), &schema, name, count)?, expected);
+    }
+    Ok(())
+}
+
+// `CREATE TABLE ` and the name alone are 1,048,576 bytes.
+#[test]
+fn a_text_has_a_mebibyte_at_most(rt: HostRuntime) -> Result<(), Fail> {
+    let schema = Schema::new(rt.alloc());
     let mut long = Vec::new(rt.alloc());
-    for _ in 0..1_048_576 {
+    for _ in 0..1_048_563 {
         long.push(b'a')?;
     }
-    let columns = many(rt.alloc(), 1)?;
-    let s = table(rt.alloc(), Seq::of_items(long), columns, PLAIN, "", "")?;
-    assert_eq!(rt; code(rt.alloc(), &schema, &s), 15);
-    let columns = many(rt.alloc(), 1)?;
-    let s = table(
-        rt.alloc(),
-        bytes(rt.alloc(), b"tt")?,
-        columns,
-        PLAIN,
-        "",
-        "",
-    )?;
-    accept_many(rt.alloc(), &mut schema, 255)?;
-    assert_eq!(rt; code(rt.alloc(), &schema, &s), 0);
-    accept_many(rt.alloc(), &mut schema, 256)?;
-    assert_eq!(rt; code(rt.alloc(), &schema, &s), 15);
+    assert_eq!(rt; told_many(rt.alloc(), &schema, Seq::of_items(long), 1)?, 15);
+    Ok(())
+}
+
+#[test]
+fn there_are_256_definitions_at_most(rt: HostRuntime) -> Result<(), Fail> {
+    let mut schema = Schema::new(rt.alloc());
+    for (count, expected) in [(255, 0), (256, 15)] {
+        accept_many(rt.alloc(), &mut schema, count)?;
+        let name = bytes(rt.alloc(), b"tt")?;
+        assert_eq!(rt; told_many(rt.alloc(), &schema, name, 1)?, expected);
+    }
     Ok(())
 }
 
