@@ -1,5 +1,7 @@
 use crate::{line_insert, line_ok, line_refused, line_rows, rows_text};
-use chv_ast::Refusal;
+use chv_ast::{Refusal, Seq};
+use chv_types::{Block, Bytes, Row, Value};
+use std::alloc::{AllocError, Global};
 use std::test::Fail;
 
 #[test]
@@ -29,19 +31,58 @@ fn replies_are_lines(rt: HostRuntime) {
     }
 }
 
+fn bytes(alloc: Global, bytes: &[u8]) -> Result<Bytes, AllocError> {
+    Ok(Bytes::of_items(Vec::from_slice(alloc, bytes)?))
+}
+
+fn row(alloc: Global, value: Value) -> Result<Row, AllocError> {
+    let mut row: Row = Seq::new(alloc);
+    row.push(value)?;
+    Ok(row)
+}
+
+// A row of one value is its text with a line feed behind it.
 #[test]
-fn rows_are_lines(rt: HostRuntime) -> Result<(), Fail> {
-    let cases: [(&[u64], &[u8]); 3] = [
-        (&[], b""),
-        (&[0], b"0\n"),
+fn each_value_has_its_text(rt: HostRuntime) -> Result<(), Fail> {
+    let cases: [(Value, &[u8]); 9] = [
+        (Value::Whole(-1), b"-1\n"),
+        (Value::Whole(255), b"255\n"),
+        (Value::Truth(true), b"true\n"),
+        (Value::Truth(false), b"false\n"),
+        (Value::Text(bytes(rt.alloc(), b"a\tb'c")?), b"a\\tb\\'c\n"),
         (
-            &[7, 18446744073709551615, 0, 7],
-            b"7\n18446744073709551615\n0\n7\n",
+            Value::Text(bytes(rt.alloc(), &[8, 9, 10, 12, 13, 0, 39, 92])?),
+            b"\\b\\t\\n\\f\\r\\0\\'\\\\\n",
+        ),
+        (Value::Text(bytes(rt.alloc(), &[200])?), &[200, 10]),
+        (Value::Text(bytes(rt.alloc(), b"")?), b"\n"),
+        (
+            Value::State(bytes(rt.alloc(), &[0, 9, 160, 255])?),
+            b"0009a0ff\n",
         ),
     ];
-    for (values, expected) in cases {
-        let text = rows_text(rt.alloc(), values)?;
-        assert_eq!(rt; text.as_slice(), expected);
+    for (value, text) in cases {
+        let mut block: Block = Seq::new(rt.alloc());
+        block.push(row(rt.alloc(), value)?)?;
+        assert_eq!(rt; rows_text(rt.alloc(), &block)?.as_slice(), text);
     }
+    Ok(())
+}
+
+// Rows in order, with tabs between the values of each; a block without rows has no line.
+#[test]
+fn rows_are_lines(rt: HostRuntime) -> Result<(), Fail> {
+    let mut block: Block = Seq::new(rt.alloc());
+    assert_eq!(rt; rows_text(rt.alloc(), &block)?.as_slice(), b"".as_slice());
+    let mut first = row(rt.alloc(), Value::Whole(7))?;
+    first.push(Value::Truth(true))?;
+    block.push(first)?;
+    let mut second = row(rt.alloc(), Value::Whole(0))?;
+    second.push(Value::Truth(false))?;
+    block.push(second)?;
+    assert_eq!(rt;
+        rows_text(rt.alloc(), &block)?.as_slice(),
+        b"7\ttrue\n0\tfalse\n".as_slice()
+    );
     Ok(())
 }

@@ -1,7 +1,7 @@
--- The rows so far.
-use Rattle.std.proofs.Common.{◌≡◌, [], ◌∷◌, map, take}
-use Rattle.chv_text.specs.Rows.{rows_text}
+use Rattle.std.proofs.Common.{◌≡◌, take}
+use Rattle.std.specs.List.{flat_map}
+use Rattle.chv_text.specs.Rows.{row_text}
 use Rattle.chv_text.proofs.rows.rows_text.Given as goal
 
-abbrev pub invariant-loop-value : goal.invariant-loop-value
-invariant-loop-value l = l.text.items ≡ rows_text (map (λ value. value ∷ []) (take l.value-index l.values))
+abbrev pub invariant-loop-row : goal.invariant-loop-row
+invariant-loop-row l = l.out.items ≡ flat_map row_text (take l.row-index l.block)
