@@ -1,3 +1,6 @@
+pub mod ColumnLemmas
 pub mod FileLemmas
 pub mod PartLemmas
+pub mod ReadingLemmas
+pub mod RoomLemmas
 pub mod WritingLemmas

@@ -1,23 +1,32 @@
 -- The files of parts: docs/FORMATS.md, "Part files".
-use Rattle.std.specs.Prelude.{ℕ, ⊤, ◌≡◌, ◌≢◌, ◌<◌, ◌^◌, List, [], ◌∷◌, ◌++◌, length, map, slice_index, codes}
-use Rattle.std.specs.Int.{w64, to_le_bytes}
-use Rattle.std.specs.List.{flat_map, range_with_len}
+use Rattle.std.specs.Prelude.{ℕ, ⊤, ◌≡◌, ◌≢◌, ◌+◌, ◌<◌, ◌^◌, List, [], ◌∷◌, ◌++◌, length, codes, slice_get, Option, Some, None}
+use Rattle.std.specs.Int.{w32, w64, to_le_bytes}
+use Rattle.chv_block.specs.Spellings.{AllAreOf, codes_of, value_spelling}
 use Rattle.chv_sip.specs.BlockIds.{keyed_hash, first_key}
-use Rattle.chv_part.specs.Blocks.{Block, head_spelling, values_spelling}
+use Rattle.chv_types.specs.declared.kind.Kind.{Kind}
+use Rattle.chv_types.specs.declared.value.Value.{Value}
 use Rattle.chv_part.specs.declared.reading.PartFault.{PartFault}
 use Rattle.chv_part.specs.declared.reading.PartFault.TheVariants.{Failed, Hash, Shape, NoMemory}
 
--- the values of one column, in row order
-abbrev pub column_of : Block → ℕ → List ℕ
-column_of block column = map (λ row. slice_index row column) block
+-- a value in bytes, where a row has it
+abbrev pub spelled : Kind → Option Value → List ℕ
+spelled kind None = []
+spelled kind (Some value) = value_spelling kind value
 
--- the values column by column, each column in row order
-abbrev pub column_wise : ℕ → Block → List ℕ
-column_wise columns block = flat_map (column_of block) (range_with_len 0 columns)
+-- the values of the column at a place, in row order
+abbrev pub column_spelling : Kind → ℕ → List (List Value) → List ℕ
+column_spelling kind place [] = []
+column_spelling kind place (row ∷ rows) = spelled kind (slice_get row place) ++ column_spelling kind place rows
 
--- the body of a part: its head, and the values column by column
-abbrev pub part_body : ℕ → Block → List ℕ
-part_body columns block = head_spelling columns (length block) ++ values_spelling (column_wise columns block)
+-- columns one behind the other, the first of them at this place
+abbrev pub columns_spelling : ℕ → List Kind → List (List Value) → List ℕ
+columns_spelling place [] rows = []
+columns_spelling place (kind ∷ kinds) rows = column_spelling kind place rows ++ columns_spelling (place + 1) kinds rows
+
+-- the body of a part: the number of its columns and their kinds, the number of its rows, and the values column by column
+abbrev pub part_body : List Kind → List (List Value) → List ℕ
+part_body kinds rows =
+    to_le_bytes w32 (length kinds) ++ codes_of kinds ++ to_le_bytes w64 (length rows) ++ columns_spelling 0 kinds rows
 
 -- a body in a frame that keeps this hash: a mark, the body's length, the hash, and the body
 abbrev pub framed : ℕ → List ℕ → List ℕ
@@ -28,12 +37,8 @@ abbrev pub part_frame : List ℕ → List ℕ
 part_frame body = framed (keyed_hash first_key body) body
 
 -- the file of a part
-abbrev pub part_file : ℕ → Block → List ℕ
-part_file columns block = part_frame (part_body columns block)
-
--- rows of one value each
-abbrev pub rows_of : List ℕ → Block
-rows_of values = map (λ value. value ∷ []) values
+unfoldable pub part_file : List Kind → List (List Value) → List ℕ
+part_file kinds rows = part_frame (part_body kinds rows)
 
 -- the frame of a file fits, and keeps another hash than the one that is found of its body
 pub record HashDiffers (kept found : ℕ) (file : List ℕ) : Type 0 where
@@ -43,10 +48,14 @@ pub record HashDiffers (kept found : ℕ) (file : List ℕ) : Type 0 where
   pub words : (kept < 2 ^ 64) × (found < 2 ^ 64)
   pub differ : kept ≢ found
 
--- a file is that of no values in one column; and its frame does not fit, or keeps the hash of its body
-pub record IsShapeless (file : List ℕ) : Type 0 where
-  pub off : (values : List ℕ) → file ≢ part_file 1 (rows_of values)
+-- a file is that of no rows of these kinds; and its frame does not fit, or keeps the hash of its body
+pub record IsShapeless (kinds : List Kind) (file : List ℕ) : Type 0 where
+  pub off : (rows : List (List Value)) → AllAreOf kinds rows → file ≢ part_file kinds rows
   pub hash : (kept : ℕ) (body : List ℕ) → file ≡ framed kept body → file ≡ part_frame body
+
+-- the file is that of some rows of these kinds
+abbrev pub IsWhole : List Kind → List ℕ → Type 0
+IsWhole kinds file = (rows : List (List Value)) × AllAreOf kinds rows × (file ≡ part_file kinds rows)
 
 -- a fault of the file itself
 abbrev pub IsDamage : PartFault → Type 0

@@ -1,41 +1,91 @@
 // The files of parts.
-ghost use Rattle.std.specs.Prelude.{◌≡◌, [], ◌∷◌, IfOk};
-ghost use Rattle.chv_part.specs.Parts.{part_body, part_frame, part_file};
+ghost use Rattle.std.specs.Prelude.{◌≡◌, ◌≤◌, ◌+◌, ◌++◌, IfOk, OnOk, length, drop, slice_get};
+ghost use Rattle.std.specs.List.{All};
+ghost use Rattle.chv_types.specs.Values.{IsPlain};
+ghost use Rattle.chv_block.specs.Spellings.{AllAreOf};
+ghost use Rattle.chv_part.specs.Columns.{IsSomeOf, ColumnIsOf};
+ghost use Rattle.chv_part.specs.Parts.{spelled, column_spelling, columns_spelling, part_body, part_frame, part_file};
 
-use crate::block::push_head;
+use chv_block::{put_kinds, spell_value};
 use chv_sip::body_hash;
+use chv_types::{Block, Bytes, Kind, Kinds, Row};
 use std::alloc::{AllocError, Global};
 
 /// What the file of a part begins with.
 pub const MARK: [u8; 8] = *b"CHVPART1";
 
 // The bytes in front of a body: the mark, the body's length and its hash.
-const HEAD_BYTES: usize = 24;
+const FRAME_BYTES: usize = 24;
 
-/// The file of a part with one row in one UInt64 column.
-pub fn encode_part(alloc: Global, value: u64) -> Result<Vec<u8>, AllocError>
-    ensures { IfOk result (λ v. v.items ≡ part_file 1 ((value ∷ []) ∷ [])) }
+/// The file of a part: a frame that keeps the body's hash, and the values of the rows column by column.
+///
+/// The rows are put in the order that they have.
+#[tactic(auto, unfolding(crate::specs::Parts::part_file))]
+pub fn encode_part(alloc: Global, kinds: &Kinds, block: &Block) -> Result<Bytes, AllocError>
+    requires plain { All IsPlain kinds.now }
+    requires rows { AllAreOf kinds.now block.now }
+    ensures { IfOk result (λ file. file ≡ part_file kinds.now block.now) }
 {
-    let body = body_bytes(alloc, value)?;
-    framed(alloc, &body)
+    let mut file = Vec::new(alloc);
+    file.extend_from_slice(&[0; FRAME_BYTES])?;
+    put_body(&mut file, kinds.as_slice(), block.as_slice())?;
+    fill_frame(&mut file);
+    Ok(Bytes::of_items(file))
 }
 
-fn body_bytes(alloc: Global, value: u64) -> Result<Vec<u8>, AllocError>
-    ensures { IfOk result (λ v. v.items ≡ part_body 1 ((value ∷ []) ∷ [])) }
+// Fills in what stands in front of a body: the mark, the body's length and its hash.
+fn fill_frame(file: &mut [u8])
+    requires room { FRAME_BYTES ≤ length file.old }
+    ensures { file.new ≡ part_frame (drop FRAME_BYTES file.old) }
 {
-    let mut body = Vec::new(alloc);
-    push_head(&mut body, 1)?;
-    body.extend_from_slice(&value.to_le_bytes())?;
-    Ok(body)
+    let size = (file.len() - FRAME_BYTES) as u64;
+    let hash = body_hash(&file[FRAME_BYTES..]);
+    file[..8].copy_from_slice(&MARK);
+    file[8..16].copy_from_slice(&size.to_le_bytes());
+    file[16..FRAME_BYTES].copy_from_slice(&hash.to_le_bytes());
 }
 
-fn framed(alloc: Global, body: &[u8]) -> Result<Vec<u8>, AllocError>
-    ensures { IfOk result (λ v. v.items ≡ part_frame body.now) }
+// Puts the body of a part behind `out`.
+fn put_body(out: &mut Vec<u8>, kinds: &[Kind], rows: &[Row]) -> Result<(), AllocError>
+    requires plain { All IsPlain kinds.now }
+    requires rows { AllAreOf kinds.now rows.now }
+    ensures { OnOk result (out.new.items ≡ out.old.items ++ part_body kinds.now rows.now) }
 {
-    let mut file = Vec::with_capacity(alloc, HEAD_BYTES + body.len())?;
-    file.extend_from_slice(&MARK)?;
-    file.extend_from_slice(&(body.len() as u64).to_le_bytes())?;
-    file.extend_from_slice(&body_hash(body).to_le_bytes())?;
-    file.extend_from_slice(body)?;
-    Ok(file)
+    put_kinds(out, kinds)?;
+    let count = rows.len() as u64;
+    out.extend_from_slice(&count.to_le_bytes())?;
+    put_columns(out, kinds, rows)
+}
+
+// Puts the values of rows behind `out`, column by column.
+fn put_columns(out: &mut Vec<u8>, kinds: &[Kind], rows: &[Row]) -> Result<(), AllocError>
+    requires rows { AllAreOf kinds.now rows.now }
+    ensures { OnOk result (out.new.items ≡ out.old.items ++ columns_spelling 0 kinds.now rows.now) }
+{
+    for place in 0..kinds.len() {
+        put_column(out, kinds[place], place, rows)?;
+    }
+    Ok(())
+}
+
+// Puts the values of the column at a place behind `out`.
+fn put_column(out: &mut Vec<u8>, kind: Kind, place: usize, rows: &[Row]) -> Result<(), AllocError>
+    requires values { ColumnIsOf kind place rows.now }
+    ensures { OnOk result (out.new.items ≡ out.old.items ++ column_spelling kind place rows.now) }
+{
+    for i in 0..rows.len() {
+        put_at(out, kind, &rows[i], place)?;
+    }
+    Ok(())
+}
+
+// Puts the value at a place of a row behind `out`.
+fn put_at(out: &mut Vec<u8>, kind: Kind, row: &Row, place: usize) -> Result<(), AllocError>
+    requires value { IsSomeOf kind (slice_get row.now place) }
+    ensures { OnOk result (out.new.items ≡ out.old.items ++ spelled kind (slice_get row.now place)) }
+{
+    match row.get(place) {
+        Some(value) => spell_value(kind, value, out),
+        None => Ok(()),
+    }
 }

@@ -1,22 +1,24 @@
 // How the file of a part is read back.
-ghost use Rattle.std.specs.Prelude.{◌≡◌, ◌≢◌, ◌++◌, ◌+◌, ◌*◌, ◌<◌, ◌≤◌, ◌^◌, List, ℕ, length, IfOk, IfErr, IfSome, IsNone, IsErrOf};
+ghost use Rattle.std.specs.Prelude.{◌≡◌, ◌≢◌, ◌++◌, ◌+◌, ◌*◌, ◌<◌, ◌≤◌, ◌^◌, List, ℕ, length, IfOk, IfErr, IfSome, IsNone, IsErrOf, [], drop};
 ghost use Rattle.std.specs.Int.{w64, to_le_bytes};
 ghost use Rattle.chv_site.specs.Faults.{HasRisen};
 ghost use Rattle.chv_site.specs.Files.{KeepsFiles};
 ghost use Rattle.chv_site.specs.Images.{IsLeft};
 ghost use Rattle.chv_site.specs.During.{During};
-ghost use Rattle.chv_part.specs.Blocks.{values_spelling};
-ghost use Rattle.chv_part.specs.Parts.{part_body, framed, part_frame, part_file, rows_of, HashDiffers, IsShapeless, IsDamage};
+ghost use Rattle.std.specs.List.{All};
+ghost use Rattle.chv_types.specs.Values.{IsPlain};
+ghost use Rattle.chv_types.specs.declared.value.Value.{Value};
+ghost use Rattle.chv_block.specs.Spellings.{AllAreOf};
+ghost use Rattle.chv_part.specs.Columns.{ColumnIsOf, HasGained, head_spelling};
+ghost use Rattle.chv_part.specs.Parts.{column_spelling, columns_spelling, part_body, framed, part_frame, part_file, HashDiffers, IsShapeless, IsDamage};
 
-use crate::block::push_head;
 use crate::encoding::MARK;
 use byteorder::{ByteOrder, LittleEndian};
+use chv_block::{put_kinds, read_value};
 use chv_sip::body_hash;
 use chv_site::{Failed, FileId, Site};
+use chv_types::{Block, Kind, Kinds, Row};
 use std::alloc::{AllocError, Global};
-
-// The bytes in front of a body's values: the number of columns, the kind and the number of rows.
-const BODY_HEAD_BYTES: usize = 13;
 
 /// Why a part was not read.
 #[derive(Clone, Copy, Debug, PartialEq, Eq)]
@@ -25,7 +27,7 @@ pub enum PartFault {
     Failed,
     /// The file keeps another hash of its body than the one found.
     Hash { kept: u64, found: u64 },
-    /// The file's frame does not fit, or its body is not that of values in one UInt64 column.
+    /// The file's frame does not fit, or its body is not that of rows of the table's kinds.
     Shape,
     /// There was no memory.
     NoMemory,
@@ -53,15 +55,24 @@ impl From<AllocError> for PartFault {
     }
 }
 
-/// The values of a part of a table with one UInt64 column, in row order. It changes no file.
+/// The rows of a part of a table with columns of these kinds, in the order that they have there. It changes no file.
 ///
-/// A file that is absent, cut short or of another table's columns has no shape. No length in it is trusted: memory is
-/// taken for the bytes that the file has, and for the values that its body has room for.
-pub fn read_part<W: Site>(alloc: Global, site: &mut W, f: FileId) -> Result<Vec<u64>, PartFault>
-    ensures read { W.tells → IfOk result (λ values. (W.state site.old f).bytes ≡ part_file 1 (rows_of values.items)) }
+/// A file that is absent, cut short or of other kinds has no shape. No length in it is trusted: memory is taken for the
+/// bytes that the file has, and for as many rows as its body has room for.
+pub fn read_part<W: Site>(
+    alloc: Global,
+    site: &mut W,
+    f: FileId,
+    kinds: &Kinds,
+) -> Result<Block, PartFault>
+    requires some { 1 ≤ length kinds.now }
+    requires most { length kinds.now ≤ 64 }
+    requires plain { All IsPlain kinds.now }
+    ensures read { W.tells → IfOk result (λ rows. (W.state site.old f).bytes ≡ part_file kinds.now rows) }
+    ensures kinds { IfOk result (λ rows. AllAreOf kinds.now rows) }
     ensures hash { W.tells → (kept found : ℕ) → IsErrOf result (PartFault.Hash kept found) → HashDiffers kept found (W.state site.old f).bytes }
     ensures differ { (kept found : ℕ) → IsErrOf result (PartFault.Hash kept found) → kept ≢ found }
-    ensures shape { W.tells → IsErrOf result PartFault.Shape → IsShapeless (W.state site.old f).bytes }
+    ensures shape { W.tells → IsErrOf result PartFault.Shape → IsShapeless kinds.now (W.state site.old f).bytes }
     ensures files { W.tells → KeepsFiles (W.state site.old) (W.state site.new) }
     ensures said { W.tells → W.said site.new ≡ W.said site.old }
     ensures during { W.tells → During W.moment W.left_since site.old site.new (IsLeft (W.state site.old) (W.said site.old)) }
@@ -70,7 +81,7 @@ pub fn read_part<W: Site>(alloc: Global, site: &mut W, f: FileId) -> Result<Vec<
     ensures other_faults { W.say_faults site.new ≡ W.say_faults site.old }
 {
     let file = read_file(alloc, site, f)?;
-    part_values(alloc, &file)
+    part_rows(alloc, &file, kinds)
 }
 
 // The bytes of a file, which are read into one buffer of its size.
@@ -91,16 +102,21 @@ fn read_file<W: Site>(alloc: Global, site: &mut W, f: FileId) -> Result<Vec<u8>,
     Ok(file)
 }
 
-// The values of the part that has this file.
-fn part_values(alloc: Global, file: &[u8]) -> Result<Vec<u64>, PartFault>
-    ensures read { IfOk result (λ values. file.now ≡ part_file 1 (rows_of values.items)) }
+// The rows of the part that has this file.
+#[tactic(auto, unfolding(crate::specs::Parts::part_file))]
+fn part_rows(alloc: Global, file: &[u8], kinds: &Kinds) -> Result<Block, PartFault>
+    requires some { 1 ≤ length kinds.now }
+    requires most { length kinds.now ≤ 64 }
+    requires plain { All IsPlain kinds.now }
+    ensures read { IfOk result (λ rows. file.now ≡ part_file kinds.now rows) }
+    ensures kinds { IfOk result (λ rows. AllAreOf kinds.now rows) }
     ensures hash { (kept found : ℕ) → IsErrOf result (PartFault.Hash kept found) → HashDiffers kept found file.now }
-    ensures shape { IsErrOf result PartFault.Shape → IsShapeless file.now }
+    ensures shape { IsErrOf result PartFault.Shape → IsShapeless kinds.now file.now }
     ensures err { IfErr result (λ fault. fault ≢ PartFault.Failed) }
 {
     let body = frame_body(file)?;
-    match body_values(alloc, body)? {
-        Some(values) => Ok(values),
+    match body_rows(alloc, body, kinds)? {
+        Some(rows) => Ok(rows),
         None => Err(PartFault::Shape),
     }
 }
@@ -149,26 +165,128 @@ fn split_number(bytes: &[u8]) -> Option<(u64, &[u8])>
     Some((LittleEndian::read_u64(number), rest))
 }
 
-// The values of a body, where it is that of one UInt64 column.
-fn body_values(alloc: Global, body: &[u8]) -> Result<Option<Vec<u64>>, AllocError>
-    ensures some { IfOk result (λ found. IfSome found (λ values. body.now ≡ part_body 1 (rows_of values.items))) }
-    ensures none { IfOk result (λ found. IsNone found → (values : List ℕ) → body.now ≢ part_body 1 (rows_of values)) }
+// The rows of a body, where it is that of rows of these kinds.
+fn body_rows(alloc: Global, body: &[u8], kinds: &Kinds) -> Result<Option<Block>, AllocError>
+    requires some { 1 ≤ length kinds.now }
+    requires most { length kinds.now ≤ 64 }
+    requires plain { All IsPlain kinds.now }
+    ensures some { IfOk result (λ read. IfSome read (λ rows. AllAreOf kinds.now rows × (body.now ≡ part_body kinds.now rows))) }
+    ensures none { IfOk result (λ read. IsNone read → (rows : List (List Value)) → AllAreOf kinds.now rows → body.now ≢ part_body kinds.now rows) }
 {
-    let rows = body.len().saturating_sub(BODY_HEAD_BYTES) / 8;
-    let mut head = Vec::new(alloc);
-    push_head(&mut head, rows as u64)?;
-    match body.strip_prefix(&head) {
-        Some(values) if values.len() == 8 * rows => Ok(Some(read_values(alloc, values, rows)?)),
-        _ => Ok(None),
+    match split_head(alloc, body, kinds.as_slice())? {
+        Some((count, values)) => read_rows(alloc, values, kinds.as_slice(), count),
+        None => Ok(None),
     }
 }
 
-// The values that bytes spell, 8 bytes each.
-fn read_values(alloc: Global, bytes: &[u8], count: usize) -> Result<Vec<u64>, AllocError>
-    requires { length bytes.now ≡ 8 * count }
-    ensures { IfOk result (λ values. bytes.now ≡ values_spelling values.items) }
+// The number of rows in the head of a body, and the values behind it, where the head is that of these kinds.
+//
+// The number is compared with the bytes behind it, for each value has one byte or more.
+fn split_head<'a>(
+    alloc: Global,
+    body: &'a [u8],
+    kinds: &[Kind],
+) -> Result<Option<(usize, &'a [u8])>, AllocError>
+    requires some { 1 ≤ length kinds.now }
+    requires plain { All IsPlain kinds.now }
+    ensures head { IfOk result (λ read. IfSome read (λ x. body.now ≡ head_spelling kinds.now x.0 ++ x.1.now)) }
+    ensures fits { IfOk result (λ read. IfSome read (λ x. (x.0 < 2 ^ 64) × (length x.1.now < 2 ^ 64))) }
+    ensures room { IfOk result (λ read. IfSome read (λ x. x.0 * length kinds.now ≤ length x.1.now)) }
+    ensures none { IfOk result (λ read. IsNone read → (rows : List (List Value)) → AllAreOf kinds.now rows → body.now ≢ part_body kinds.now rows) }
 {
-    let mut values = vec![in alloc; 0u64; count]?;
-    LittleEndian::read_u64_into(bytes, &mut values);
-    Ok(values)
+    let mut head = Vec::new(alloc);
+    put_kinds(&mut head, kinds)?;
+    let Some(rest) = body.strip_prefix(&head) else {
+        return Ok(None);
+    };
+    let Some((count, values)) = split_number(rest) else {
+        return Ok(None);
+    };
+    if count > (values.len() / kinds.len()) as u64 {
+        return Ok(None);
+    }
+    Ok(Some((count as usize, values)))
+}
+
+// As many rows as are told, where bytes are their columns and nothing else.
+fn read_rows(
+    alloc: Global,
+    bytes: &[u8],
+    kinds: &[Kind],
+    count: usize,
+) -> Result<Option<Block>, AllocError>
+    requires plain { All IsPlain kinds.now }
+    requires room { count * length kinds.now ≤ length bytes.now }
+    ensures count { IfOk result (λ read. IfSome read (λ rows. length rows ≡ count)) }
+    ensures kinds { IfOk result (λ read. IfSome read (λ rows. AllAreOf kinds.now rows)) }
+    ensures columns { IfOk result (λ read. IfSome read (λ rows. bytes.now ≡ columns_spelling 0 kinds.now rows)) }
+    ensures none { IfOk result (λ read. IsNone read → (rows : List (List Value)) → length rows ≡ count → AllAreOf kinds.now rows → bytes.now ≢ columns_spelling 0 kinds.now rows) }
+{
+    let mut rows = empty_rows(alloc, count, kinds.len())?;
+    let Some(behind) = read_columns(alloc, bytes, kinds, &mut rows)? else {
+        return Ok(None);
+    };
+    if behind < bytes.len() {
+        return Ok(None);
+    }
+    Ok(Some(Block::of_items(rows)))
+}
+
+// Rows without values, each with memory for as many as there are columns.
+fn empty_rows(alloc: Global, count: usize, columns: usize) -> Result<Vec<Row>, AllocError>
+    ensures count { IfOk result (λ rows. length rows.items ≡ count) }
+    ensures empty { IfOk result (λ rows. AllAreOf [] rows.items) }
+{
+    let mut rows = Vec::with_capacity(alloc, count)?;
+    for _ in 0..count {
+        rows.push(Row::of_items(Vec::with_capacity(alloc, columns)?))?;
+    }
+    Ok(rows)
+}
+
+// Reads columns from the first byte on into rows, and answers the place behind them.
+fn read_columns(
+    alloc: Global,
+    bytes: &[u8],
+    kinds: &[Kind],
+    rows: &mut [Row],
+) -> Result<Option<usize>, AllocError>
+    requires plain { All IsPlain kinds.now }
+    requires empty { AllAreOf [] rows.old }
+    ensures kinds { IfOk result (λ read. IfSome read (λ behind. AllAreOf kinds.now rows.new)) }
+    ensures columns { IfOk result (λ read. IfSome read (λ behind. bytes.now ≡ columns_spelling 0 kinds.now rows.new ++ drop behind bytes.now)) }
+    ensures none { IfOk result (λ read. IsNone read → (given : List (List Value)) → length given ≡ length rows.old → AllAreOf kinds.now given → bytes.now ≢ columns_spelling 0 kinds.now given) }
+{
+    let mut at = 0;
+    for place in 0..kinds.len() {
+        let Some(behind) = read_column(alloc, kinds[place], bytes, at, rows)? else {
+            return Ok(None);
+        };
+        at = behind;
+    }
+    Ok(Some(at))
+}
+
+// Reads a column from a place on, one value behind each row, and answers the place behind it.
+fn read_column(
+    alloc: Global,
+    kind: Kind,
+    bytes: &[u8],
+    at: usize,
+    rows: &mut [Row],
+) -> Result<Option<usize>, AllocError>
+    requires plain { IsPlain kind }
+    ensures gained { IfOk result (λ read. IfSome read (λ behind. HasGained kind (length rows.old) rows.old rows.new bytes.now at behind)) }
+    ensures none { IfOk result (λ read. IsNone read → (place : ℕ) (given : List (List Value)) (rest : List ℕ) → length given ≡ length rows.old
+        → ColumnIsOf kind place given → drop at bytes.now ≢ column_spelling kind place given ++ rest) }
+{
+    let mut next = at;
+    for j in 0..rows.len() {
+        let Some((value, behind)) = read_value(alloc, kind, bytes, next)? else {
+            return Ok(None);
+        };
+        rows[j].push(value)?;
+        next = behind;
+    }
+    Ok(Some(next))
 }

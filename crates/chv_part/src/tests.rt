@@ -1,8 +1,17 @@
 // Parts as they are written, and as they are read back, whole and damaged.
-use crate::block::block_bytes;
+ghost use Rattle.std.specs.Prelude.{◌≡◌, ◌≤◌, ◌∷◌, [], length, IfOk};
+ghost use Rattle.std.specs.List.{All};
+ghost use Rattle.chv_types.specs.Values.{IsPlain};
+ghost use Rattle.chv_types.specs.declared.value.Value.TheVariants.{Whole};
+ghost use Rattle.chv_block.specs.Spellings.{AllAreOf};
+
 use crate::encoding::encode_part;
 use crate::reading::{PartFault, read_part};
-use chv_site::{Fails, FileId, MemSite, Site};
+use crate::writing::write_part;
+use chv_ast::Seq;
+use chv_sip::body_hash;
+use chv_site::{Fails, FileId, MemSite};
+use chv_types::{Block, Kind, Kinds, Row, Scalar, Value};
 use std::alloc::{AllocError, Global};
 use std::test::Fail;
 
@@ -14,47 +23,171 @@ const ONE_ROW: [u8; 45] = [
 
 const ONE_ROW_HASH: u64 = 0xe676_5cdc_d5cf_1169;
 
-fn framed(alloc: Global, hash: u64, body: &[u8]) -> Result<Vec<u8>, AllocError> {
+// The file of the part with the rows (1, 10) and (2, 20).
+const TWO_COLUMNS: [u8; 70] = [
+    b'C', b'H', b'V', b'P', b'A', b'R', b'T', b'1', 46, 0, 0, 0, 0, 0, 0, 0, 0x63, 0xf5, 0x80,
+    0x7a, 0x88, 0x17, 0xf7, 0xb2, 2, 0, 0, 0, 4, 4, 2, 0, 0, 0, 0, 0, 0, 0, 1, 0, 0, 0, 0, 0, 0, 0,
+    2, 0, 0, 0, 0, 0, 0, 0, 10, 0, 0, 0, 0, 0, 0, 0, 20, 0, 0, 0, 0, 0, 0, 0,
+];
+
+fn one_column(alloc: Global, scalar: Scalar) -> Result<Kinds, AllocError>
+    ensures { IfOk result (λ kinds. kinds ≡ Kind.Plain scalar ∷ []) }
+{
+    let mut kinds: Kinds = Seq::new(alloc);
+    kinds.push(Kind::Plain(scalar))?;
+    Ok(kinds)
+}
+
+fn two_columns(alloc: Global) -> Result<Kinds, AllocError>
+    ensures { IfOk result (λ kinds. kinds ≡ Kind.Plain Scalar.UInt64 ∷ Kind.Plain Scalar.UInt64 ∷ []) }
+{
+    let mut kinds: Kinds = Seq::new(alloc);
+    kinds.push(Kind::Plain(Scalar::UInt64))?;
+    kinds.push(Kind::Plain(Scalar::UInt64))?;
+    Ok(kinds)
+}
+
+fn pair(alloc: Global, first: i128, second: i128) -> Result<Row, AllocError>
+    ensures { IfOk result (λ row. row ≡ Whole first ∷ Whole second ∷ []) }
+{
+    let mut row: Row = Seq::new(alloc);
+    row.push(Value::Whole(first))?;
+    row.push(Value::Whole(second))?;
+    Ok(row)
+}
+
+fn framed(alloc: Global, body: &[u8]) -> Result<Vec<u8>, AllocError> {
     let mut file = b"CHVPART1".to_vec(alloc)?;
     file.extend_from_slice(&(body.len() as u64).to_le_bytes())?;
-    file.extend_from_slice(&hash.to_le_bytes())?;
+    file.extend_from_slice(&body_hash(body).to_le_bytes())?;
     file.extend_from_slice(body)?;
     Ok(file)
 }
 
-// What is read of a file on a site whose call of this number fails; 0 for none. The first call puts the file.
-fn read(alloc: Global, file: Vec<u8>, failing: u64) -> Result<Vec<u64>, PartFault> {
+// What is read of a file on a site whose call of this number fails; 0 for none. The first three calls write the file.
+fn read(alloc: Global, kinds: &Kinds, file: &[u8], failing: u64) -> Result<Block, PartFault>
+    requires some { 1 ≤ length kinds.now }
+    requires most { length kinds.now ≤ 64 }
+    requires plain { All IsPlain kinds.now }
+    ensures { IfOk result (λ rows. AllAreOf kinds.now rows) }
+{
     let mut fails = Fails::new(alloc);
     fails.push(failing)?;
     let mut site = MemSite::new(alloc, fails);
-    site.put(FileId::part(1, 8), 0, &file)?;
-    read_part(alloc, &mut site, FileId::part(1, 8))
+    write_part(&mut site, FileId::part(1, 8), file)?;
+    read_part(alloc, &mut site, FileId::part(1, 8), kinds)
 }
 
-// The block of the row 1 has the same 21 bytes as the body of its part.
+// The number, the truth or the length of the text that a row begins with.
+fn number_at(rows: &Block, j: usize) -> Option<i128> {
+    match rows.get(j)?.get(0)? {
+        Value::Whole(n) => Some(*n),
+        Value::Truth(false) => Some(0),
+        Value::Truth(true) => Some(1),
+        Value::Text(text) => Some(text.len() as i128),
+        Value::State(_) => None,
+    }
+}
+
 #[test]
-fn the_worked_bytes_of_one_row(rt: HostRuntime) -> Result<(), Fail> {
-    let block = block_bytes(rt.alloc(), 1)?;
-    assert_eq!(rt; block.as_slice(), &ONE_ROW[24..]);
-    let part = encode_part(rt.alloc(), 1)?;
-    assert_eq!(rt; part.as_slice(), ONE_ROW.as_slice());
+fn a_part_has_its_columns_one_behind_the_other(rt: HostRuntime) -> Result<(), Fail> {
+    let alloc = rt.alloc();
+    let kinds = two_columns(alloc)?;
+    let mut rows: Block = Seq::new(alloc);
+    rows.push(pair(alloc, 1, 10)?)?;
+    rows.push(pair(alloc, 2, 20)?)?;
+    let file = encode_part(alloc, &kinds, &rows)?;
+    assert_eq!(rt; file.as_slice(), TWO_COLUMNS.as_slice());
     Ok(())
 }
 
+// Two rows of one column: the least and the greatest number of the kind, both truths, and two texts with their lengths.
 #[test]
-fn a_whole_part_reads_as_its_values(rt: HostRuntime) -> Result<(), Fail> {
+fn a_part_of_each_kind_reads_as_its_rows(rt: HostRuntime) -> Result<(), Fail> {
     let alloc = rt.alloc();
-    let one = read(alloc, ONE_ROW.to_vec(alloc)?, 0)?;
-    assert_eq!(rt; one.as_slice(), [1].as_slice());
-    let three_rows = [
-        1, 0, 0, 0, 4, 3, 0, 0, 0, 0, 0, 0, 0, 1, 0, 0, 0, 0, 0, 0, 0, 255, 255, 255, 255, 255,
-        255, 255, 255, 1, 0, 0, 0, 0, 0, 0, 0,
+    let cases: [(Scalar, &[u8], i128, i128); 10] = [
+        (
+            Scalar::UInt8,
+            &[1, 0, 0, 0, 1, 2, 0, 0, 0, 0, 0, 0, 0, 0, 255],
+            0,
+            255,
+        ),
+        (
+            Scalar::UInt16,
+            &[1, 0, 0, 0, 2, 2, 0, 0, 0, 0, 0, 0, 0, 0, 0, 255, 255],
+            0,
+            65535,
+        ),
+        (
+            Scalar::UInt32,
+            &[
+                1, 0, 0, 0, 3, 2, 0, 0, 0, 0, 0, 0, 0, 0, 0, 0, 0, 255, 255, 255, 255,
+            ],
+            0,
+            4294967295,
+        ),
+        (
+            Scalar::UInt64,
+            &[
+                1, 0, 0, 0, 4, 2, 0, 0, 0, 0, 0, 0, 0, 0, 0, 0, 0, 0, 0, 0, 0, 255, 255, 255, 255,
+                255, 255, 255, 255,
+            ],
+            0,
+            18446744073709551615,
+        ),
+        (
+            Scalar::Int8,
+            &[1, 0, 0, 0, 5, 2, 0, 0, 0, 0, 0, 0, 0, 128, 127],
+            -128,
+            127,
+        ),
+        (
+            Scalar::Int16,
+            &[1, 0, 0, 0, 6, 2, 0, 0, 0, 0, 0, 0, 0, 0, 128, 255, 127],
+            -32768,
+            32767,
+        ),
+        (
+            Scalar::Int32,
+            &[
+                1, 0, 0, 0, 7, 2, 0, 0, 0, 0, 0, 0, 0, 0, 0, 0, 128, 255, 255, 255, 127,
+            ],
+            -2147483648,
+            2147483647,
+        ),
+        (
+            Scalar::Int64,
+            &[
+                1, 0, 0, 0, 8, 2, 0, 0, 0, 0, 0, 0, 0, 0, 0, 0, 0, 0, 0, 0, 128, 255, 255, 255,
+                255, 255, 255, 255, 127,
+            ],
+            -9223372036854775808,
+            9223372036854775807,
+        ),
+        (
+            Scalar::Bool,
+            &[1, 0, 0, 0, 9, 2, 0, 0, 0, 0, 0, 0, 0, 0, 1],
+            0,
+            1,
+        ),
+        (
+            Scalar::Text,
+            &[
+                1, 0, 0, 0, 10, 2, 0, 0, 0, 0, 0, 0, 0, 0, 0, 0, 0, 2, 0, 0, 0, 255, 255,
+            ],
+            0,
+            2,
+        ),
     ];
-    let three = read(alloc, framed(alloc, 0xcf13_3f6f_6732_98ca, &three_rows)?, 0)?;
-    assert_eq!(rt; three.as_slice(), [1, 18446744073709551615, 1].as_slice());
-    let no_rows = [1, 0, 0, 0, 4, 0, 0, 0, 0, 0, 0, 0, 0];
-    let none = read(alloc, framed(alloc, 0x94b5_5b53_dfc1_aac1, &no_rows)?, 0)?;
-    assert_eq!(rt; none.as_slice(), [].as_slice());
+    for (scalar, body, least, greatest) in cases {
+        let kinds = one_column(alloc, scalar)?;
+        let file = framed(alloc, body)?;
+        let rows = read(alloc, &kinds, &file, 0)?;
+        assert_eq!(rt; rows.len(), 2);
+        assert!(rt; number_at(&rows, 0) == Some(least) && number_at(&rows, 1) == Some(greatest));
+        let again = encode_part(alloc, &kinds, &rows)?;
+        assert_eq!(rt; again.as_slice(), file.as_slice());
+    }
     Ok(())
 }
 
@@ -62,44 +195,38 @@ fn a_whole_part_reads_as_its_values(rt: HostRuntime) -> Result<(), Fail> {
 #[test]
 fn another_body_has_no_shape(rt: HostRuntime) -> Result<(), Fail> {
     let alloc = rt.alloc();
-    let cases: [(u64, &[u8]); 7] = [
-        // No body, and half a head.
-        (0x726f_db47_dd0e_0e31, &[]),
-        (0x67ce_679a_5511_ecc6, &[1, 0, 0, 0, 4]),
-        // Another kind, and two columns.
+    let cases: [(Scalar, &[u8]); 11] = [
+        // No body, half a head, and no column.
+        (Scalar::UInt8, &[]),
+        (Scalar::UInt8, &[1, 0, 0, 0, 1]),
+        (Scalar::UInt8, &[0, 0, 0, 0, 0, 0, 0, 0, 0, 0, 0, 0]),
+        // A signed kind, and two columns.
+        (Scalar::UInt8, &[1, 0, 0, 0, 5, 1, 0, 0, 0, 0, 0, 0, 0, 7]),
         (
-            0x3b7f_b579_932f_4249,
-            &[
-                1, 0, 0, 0, 5, 1, 0, 0, 0, 0, 0, 0, 0, 1, 0, 0, 0, 0, 0, 0, 0,
-            ],
+            Scalar::UInt8,
+            &[2, 0, 0, 0, 1, 1, 1, 0, 0, 0, 0, 0, 0, 0, 7, 7],
         ),
+        // More rows than bytes; a row that lacks a byte, and one that has a byte more.
+        (Scalar::UInt8, &[1, 0, 0, 0, 1, 2, 0, 0, 0, 0, 0, 0, 0, 7]),
         (
-            0xb9ce_58c0_01b5_0d1d,
-            &[
-                2, 0, 0, 0, 4, 4, 1, 0, 0, 0, 0, 0, 0, 0, 1, 0, 0, 0, 0, 0, 0, 0, 2, 0, 0, 0, 0, 0,
-                0, 0,
-            ],
+            Scalar::UInt8,
+            &[1, 0, 0, 0, 1, 255, 255, 255, 255, 255, 255, 255, 255, 7],
         ),
-        // Two rows, of which one is there; a row that lacks a byte, and one that has a byte more.
+        (Scalar::UInt16, &[1, 0, 0, 0, 2, 1, 0, 0, 0, 0, 0, 0, 0, 7]),
         (
-            0xfdfe_d59a_c7c4_695a,
-            &[
-                1, 0, 0, 0, 4, 2, 0, 0, 0, 0, 0, 0, 0, 1, 0, 0, 0, 0, 0, 0, 0,
-            ],
+            Scalar::UInt16,
+            &[1, 0, 0, 0, 2, 1, 0, 0, 0, 0, 0, 0, 0, 7, 7, 7],
         ),
+        // A truth of 2, and a text whose length is not there.
+        (Scalar::Bool, &[1, 0, 0, 0, 9, 1, 0, 0, 0, 0, 0, 0, 0, 2]),
         (
-            0xc714_294d_8cf6_46f2,
-            &[1, 0, 0, 0, 4, 1, 0, 0, 0, 0, 0, 0, 0, 0, 0, 0, 0, 0, 0, 0],
-        ),
-        (
-            0x1e5a_9e8c_1bc4_a13d,
-            &[
-                1, 0, 0, 0, 4, 1, 0, 0, 0, 0, 0, 0, 0, 1, 0, 0, 0, 0, 0, 0, 0, 0,
-            ],
+            Scalar::Text,
+            &[1, 0, 0, 0, 10, 1, 0, 0, 0, 0, 0, 0, 0, 2, 0, 0, 0, 7],
         ),
     ];
-    for (hash, body) in cases {
-        let read = read(alloc, framed(alloc, hash, body)?, 0);
+    for (scalar, body) in cases {
+        let kinds = one_column(alloc, scalar)?;
+        let read = read(alloc, &kinds, &framed(alloc, body)?, 0);
         assert!(rt; matches!(read, Err(PartFault::Shape)));
     }
     Ok(())
@@ -109,11 +236,11 @@ fn another_body_has_no_shape(rt: HostRuntime) -> Result<(), Fail> {
 #[test]
 fn each_changed_byte_is_damage(rt: HostRuntime) -> Result<(), Fail> {
     let alloc = rt.alloc();
+    let kinds = one_column(alloc, Scalar::UInt64)?;
     for at in 0..45 {
         let mut file = ONE_ROW;
         file[at] ^= 255;
-        let read = read(alloc, file.to_vec(alloc)?, 0);
-        let is_told = match read {
+        let is_told = match read(alloc, &kinds, &file, 0) {
             Err(PartFault::Shape) => at < 16,
             Err(PartFault::Hash { kept, found }) if at < 24 => {
                 kept != ONE_ROW_HASH && found == ONE_ROW_HASH && at >= 16
@@ -129,8 +256,11 @@ fn each_changed_byte_is_damage(rt: HostRuntime) -> Result<(), Fail> {
 #[test]
 fn each_shorter_file_has_no_shape(rt: HostRuntime) -> Result<(), Fail> {
     let alloc = rt.alloc();
+    let kinds = one_column(alloc, Scalar::UInt64)?;
+    let whole = read(alloc, &kinds, &ONE_ROW, 0)?;
+    assert_eq!(rt; number_at(&whole, 0), Some(1));
     for len in 0..45 {
-        let read = read(alloc, ONE_ROW[..len].to_vec(alloc)?, 0);
+        let read = read(alloc, &kinds, &ONE_ROW[..len], 0);
         assert!(rt; matches!(read, Err(PartFault::Shape)), "at {len}");
     }
     Ok(())
@@ -140,8 +270,9 @@ fn each_shorter_file_has_no_shape(rt: HostRuntime) -> Result<(), Fail> {
 #[test]
 fn a_call_that_fails_is_told(rt: HostRuntime) -> Result<(), Fail> {
     let alloc = rt.alloc();
-    for failing in [2, 3] {
-        let read = read(alloc, ONE_ROW.to_vec(alloc)?, failing);
+    let kinds = one_column(alloc, Scalar::UInt64)?;
+    for failing in [4, 5] {
+        let read = read(alloc, &kinds, &ONE_ROW, failing);
         assert!(rt; matches!(read, Err(PartFault::Failed)));
     }
     Ok(())
