@@ -1,0 +1,4 @@
+pub mod Blocks
+pub mod Literals
+pub mod Places
+pub mod Plans

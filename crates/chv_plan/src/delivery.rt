@@ -1,0 +1,16 @@
+// Deliveries.
+use chv_sip::BlockId;
+use chv_types::Bytes;
+
+/// One block for one table.
+#[derive(Debug, Drop)]
+pub struct Delivery {
+    /// The number of the table.
+    pub table: u32,
+    /// What names the block.
+    pub id: BlockId,
+    /// How many rows the block has in normal form.
+    pub rows: u64,
+    /// The file of the part that holds them.
+    pub encoded: Bytes,
+}

@@ -1,0 +1,16 @@
+//! INSERT statements: what they bring to their tables.
+#![tactic(auto)]
+
+mod columns;
+mod delivery;
+mod fault;
+mod insert;
+mod literal;
+mod row;
+
+pub use delivery::Delivery;
+pub use fault::PlanFault;
+pub use insert::plan_insert;
+
+#[cfg(test)]
+mod tests;

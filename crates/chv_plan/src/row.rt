@@ -1,0 +1,101 @@
+// Rows that literals write.
+ghost use Rattle.std.specs.Prelude.{◌≡◌, ◌<◌, length, map, Ok, Err, IfOk, IfErr};
+ghost use Rattle.std.specs.List.{All};
+ghost use Rattle.chv_ast.specs.declared.refusal.Refusal.{Refusal};
+ghost use Rattle.chv_types.specs.Values.{IsPlain};
+ghost use Rattle.chv_block.specs.Spellings.{IsOf, AreOf, AllAreOf};
+ghost use Rattle.chv_plan.specs.Places.{ArePlaces, written};
+ghost use Rattle.chv_plan.specs.Plans.{value_for, default_of, row_for, rows_for};
+
+use crate::PlanFault;
+use crate::literal::literal_value;
+use chv_ast::{Literal, Refusal, Seq};
+use chv_types::{Block, Kind, Row, Value, default_value};
+use std::alloc::{AllocError, Global};
+
+/// The rows that lists of literals write, each at these places of columns of these kinds.
+pub fn rows_for(
+    alloc: Global,
+    kinds: &[Kind],
+    places: &[usize],
+    rows: &[Seq<Literal>],
+) -> Result<Block, PlanFault>
+    requires plain { All IsPlain kinds.now }
+    requires places { ArePlaces (length kinds.now) places.now }
+    ensures rows { IfOk result (λ block. rows_for kinds.now places.now rows.now ≡ Ok block) }
+    ensures kinds { IfOk result (λ block. AllAreOf kinds.now block) }
+    ensures count { IfOk result (λ block. length block ≡ length rows.now) }
+    ensures refused { IfErr result (λ fault. (refusal : Refusal) → fault ≡ PlanFault.Refused refusal → rows_for kinds.now places.now rows.now ≡ Err refusal) }
+{
+    let mut block = Block::of_items(Vec::with_capacity(alloc, rows.len())?);
+    for literals in rows {
+        block.push(row_for(alloc, kinds, places, literals.as_slice())?)?;
+    }
+    Ok(block)
+}
+
+// The row that literals write at these places. Each other column has its default.
+fn row_for(
+    alloc: Global,
+    kinds: &[Kind],
+    places: &[usize],
+    literals: &[Literal],
+) -> Result<Row, PlanFault>
+    requires plain { All IsPlain kinds.now }
+    requires places { ArePlaces (length kinds.now) places.now }
+    ensures row { IfOk result (λ row. row_for kinds.now places.now literals.now ≡ Ok row) }
+    ensures kinds { IfOk result (λ row. AreOf kinds.now row) }
+    ensures refused { IfErr result (λ fault. (refusal : Refusal) → fault ≡ PlanFault.Refused refusal → row_for kinds.now places.now literals.now ≡ Err refusal) }
+{
+    if literals.len() != places.len() {
+        return Err(PlanFault::Refused(Refusal::WrongWidth));
+    }
+    let row = default_row(alloc, kinds)?;
+    written_row(alloc, kinds, places, literals, row)
+}
+
+// The row of the columns' defaults.
+fn default_row(alloc: Global, kinds: &[Kind]) -> Result<Vec<Value>, AllocError>
+    requires plain { All IsPlain kinds.now }
+    ensures { IfOk result (λ row. row.items ≡ map default_of kinds.now) }
+{
+    let mut row = Vec::with_capacity(alloc, kinds.len())?;
+    for kind in kinds {
+        row.push(default_value(alloc, *kind)?)?;
+    }
+    Ok(row)
+}
+
+// A row with the values of literals at these places.
+fn written_row(
+    alloc: Global,
+    kinds: &[Kind],
+    places: &[usize],
+    literals: &[Literal],
+    mut row: Vec<Value>,
+) -> Result<Row, PlanFault>
+    requires places { ArePlaces (length kinds.now) places.now }
+    requires width { length literals.now ≡ length places.now }
+    requires kinds { AreOf kinds.now row.items }
+    ensures row { IfOk result (λ full. written kinds.now places.now literals.now row.items ≡ Ok full) }
+    ensures kinds { IfOk result (λ full. AreOf kinds.now full) }
+    ensures refused { IfErr result (λ fault. (refusal : Refusal) → fault ≡ PlanFault.Refused refusal → written kinds.now places.now literals.now row.items ≡ Err refusal) }
+{
+    for i in 0..literals.len() {
+        let place = places[i];
+        row[place] = value_for(alloc, kinds[place], &literals[i])?;
+    }
+    Ok(Row::of_items(row))
+}
+
+// The value that a literal writes in a column of a kind, which is no state.
+fn value_for(alloc: Global, kind: Kind, literal: &Literal) -> Result<Value, PlanFault>
+    ensures value { IfOk result (λ value. value_for kind literal.now ≡ Ok value) }
+    ensures kind { IfOk result (λ value. IsOf kind value) }
+    ensures refused { IfErr result (λ fault. (refusal : Refusal) → fault ≡ PlanFault.Refused refusal → value_for kind literal.now ≡ Err refusal) }
+{
+    match kind {
+        Kind::Plain(scalar) => literal_value(alloc, scalar, literal),
+        Kind::State(..) => Err(PlanFault::Refused(Refusal::TypeMismatch)),
+    }
+}
