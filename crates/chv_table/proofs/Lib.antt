@@ -4,5 +4,4 @@ pub mod DeliveryLemmas
 pub mod LogDamageLemmas
 pub mod OpeningLemmas
 pub mod RowsLemmas
-pub mod SortingLemmas
 pub mod TableLemmas

@@ -2,5 +2,4 @@ pub mod Books
 pub mod Commits
 pub mod Damage
 pub mod Opening
-pub mod Sorting
 pub mod Tables

@@ -1,10 +1,10 @@
 // Commits: what one frame of a table's log says.
-ghost use Rattle.std.specs.Prelude.{◌≡◌, ◌≢◌, ◌++◌, ◌<◌, ◌^◌, [], ◌∷◌, ℕ, List, IfNone, IfOk, IfSome};
+ghost use Rattle.std.specs.Prelude.{◌≡◌, ◌≢◌, ◌++◌, ◌<◌, ◌^◌, [], ◌∷◌, ℕ, List, IfNone, IfSome};
 ghost use Rattle.std.specs.Int.{w64, to_le_bytes};
+ghost use Rattle.chv_gate.specs.GateLog.{frame_of};
 ghost use Rattle.chv_table.specs.Commits.{add_payload, AreWords};
 
 use chv_sip::BlockId;
-use std::alloc::{AllocError, Global};
 
 // What the payload of new entries begins with.
 const NEW_ENTRIES: u8 = 1;
@@ -17,17 +17,19 @@ pub struct Add {
     pub id: BlockId,
 }
 
-/// The payload that adds one entry: a part, the number of its rows, and the id of the block that brought them.
-pub fn add_payload(alloc: Global, part: u64, rows: u64, id: BlockId) -> Result<Vec<u8>, AllocError>
-    ensures { IfOk result (λ v. v.items ≡ add_payload part rows (id ∷ [])) }
+/// The frame of the commit that adds one entry: a part, the number of its rows, and the id of the block that brought them.
+pub fn frame_of_one(part: u64, rows: u64, id: BlockId) -> [u8; 42]
+    ensures { result ≡ frame_of (add_payload part rows (id ∷ [])) }
 {
-    let mut out = Vec::from_slice(alloc, &[NEW_ENTRIES])?;
-    out.extend_from_slice(&part.to_le_bytes())?;
-    out.extend_from_slice(&rows.to_le_bytes())?;
-    out.extend_from_slice(&1u32.to_le_bytes())?;
-    out.extend_from_slice(&id.first.to_le_bytes())?;
-    out.extend_from_slice(&id.second.to_le_bytes())?;
-    Ok(out)
+    let mut frame = [0; 42];
+    frame[0] = 37;
+    frame[4] = NEW_ENTRIES;
+    frame[5..13].copy_from_slice(&part.to_le_bytes());
+    frame[13..21].copy_from_slice(&rows.to_le_bytes());
+    frame[21] = 1;
+    frame[25..33].copy_from_slice(&id.first.to_le_bytes());
+    frame[33..41].copy_from_slice(&id.second.to_le_bytes());
+    frame
 }
 
 /// The entry that a payload adds; None exactly where it is the payload of no single entry.

@@ -7,7 +7,7 @@ use chv_part::Damage;
 use chv_site::Failed;
 use std::alloc::AllocError;
 
-/// Why a block was not delivered.
+/// Why the log of a new table was not begun.
 #[derive(Clone, Copy, Debug, PartialEq, Eq)]
 pub enum PutFault {
     /// A call of the site failed.

@@ -8,21 +8,30 @@ ghost use Rattle.chv_gate.specs.GateLog.{HasFrames, begun};
 ghost use Rattle.chv_gate.specs.Crashes.{IsLeftWith, LeavesFrames};
 ghost use Rattle.chv_part.specs.declared.damage.Damage.{Damage};
 ghost use Rattle.chv_table.specs.Commits.{Commit, adds, MAX_ENTRIES, IsNextCommit};
-ghost use Rattle.chv_table.specs.Books.{Book, no_book};
+ghost use Rattle.chv_part.specs.Books.{Book, no_book};
+ghost use Rattle.chv_catalog.specs.Schemas.{kinds_of};
 ghost use Rattle.chv_table.specs.Damage.{IsLogDamage};
 ghost use Rattle.chv_table.specs.Opening.{ReadsCommit, LacksCommit, log_fault_of};
-ghost use Rattle.chv_table.specs.Tables.{IsWithin, IsPlaced, HoldsCommits, HoldsBook, SettlesBook};
+ghost use Rattle.chv_table.specs.Tables.{AreColumns, IsTableOf, IsWithin, IsPlaced, HoldsCommits, HoldsBook, SettlesBook};
 
 use crate::commit::read_add;
-use crate::{MAX_ENTRIES, Table, TableFault};
+use crate::{MAX_ENTRIES, PutFault, Table, TableFault};
+use chv_catalog::TableDef;
 use chv_gate::{GateFault, GateRead, Log, begin, step};
 use chv_part::Damage;
 use chv_site::{FIRST_PART, Failed, FileId, Site};
-use std::alloc::Global;
+use chv_types::{Duplicate, Kinds};
+use std::alloc::{AllocError, Global};
 
 /// Begins the log of a new table, the number of which is 1 or more. After an `Err` it may be begun again.
-pub fn begin_table<W: Site>(site: &mut W, number: u32) -> Result<Table, Failed>
-    ensures within { IfOk result (λ table. IsWithin table × (table.number ≡ number)) }
+pub fn begin_table<W: Site>(
+    alloc: Global,
+    site: &mut W,
+    number: u32,
+    def: &TableDef,
+) -> Result<Table, PutFault>
+    requires columns { AreColumns (kinds_of def.now) }
+    ensures within { IfOk result (λ table. IsWithin table × IsTableOf number def.now table) }
     ensures placed { W.tells → IfOk result (λ table. IsPlaced table (W.state site.new)) }
     ensures begun { W.tells → OnOk result (W.state site.new (record { table = number; part = 0 })
         ≡ settled (begun (W.state site.old (record { table = number; part = 0 })).bytes)) }
@@ -33,28 +42,50 @@ pub fn begin_table<W: Site>(site: &mut W, number: u32) -> Result<Table, Failed>
         (IsLeftWith (record { table = number; part = 0 }) (λ bytes. length bytes ≤ 1) (W.state site.old) (W.said site.old)) }
     ensures others { W.tells → KeepsOthers (record { table = number; part = 0 }) (W.state site.old) (W.state site.new) }
     ensures said { W.tells → W.said site.new ≡ W.said site.old }
-    ensures failed { IsCounted (W.disk_faults site.old) (W.disk_faults site.new) result }
+    ensures faults { W.disk_faults site.old ≤ W.disk_faults site.new }
+    ensures failed { IsErrOf result PutFault.Failed → HasRisen (W.disk_faults site.old) (W.disk_faults site.new) }
     ensures other_faults { W.say_faults site.new ≡ W.say_faults site.old }
 {
+    let kinds = kinds_of(alloc, def)?;
+    let key = def.key.copy(alloc)?;
     let file = FileId::table_log(number);
     begin(site, file)?;
     Ok(Table {
         number,
+        kinds,
+        key,
         log: Log::at(file, 0),
         next_part: FIRST_PART,
     })
 }
 
+// The kinds of a table's columns.
+fn kinds_of(alloc: Global, def: &TableDef) -> Result<Kinds, AllocError>
+    ensures { IfOk result (λ kinds. kinds ≡ kinds_of def.now) }
+{
+    let mut kinds = Kinds::new(alloc);
+    for column in def.columns.as_slice() {
+        kinds.push(column.kind)?;
+    }
+    Ok(kinds)
+}
+
 /// Opens the table of a number from 1 on: begins its log, and reads it once, commit by commit.
 ///
 /// Damage is told of its log alone; its parts are not read. After an `Err` the table may be opened again.
-pub fn open_table<W: Site>(alloc: Global, site: &mut W, number: u32) -> Result<Table, TableFault>
-    ensures within { IfOk result (λ table. IsWithin table × (table.number ≡ number)) }
+pub fn open_table<W: Site>(
+    alloc: Global,
+    site: &mut W,
+    number: u32,
+    def: &TableDef,
+) -> Result<Table, TableFault>
+    requires columns { AreColumns (kinds_of def.now) }
+    ensures within { IfOk result (λ table. IsWithin table × IsTableOf number def.now table) }
     ensures placed { W.tells → IfOk result (λ table. IsPlaced table (W.state site.new)) }
     // It holds the commits of its log, which is not damaged.
     ensures commits { W.tells → IfOk result (λ table. (commits : List Commit) × HoldsCommits table (W.state site.new) commits
         × HasFrames (adds 8 commits) (W.state site.old (record { table = number; part = 0 })).bytes) }
-    ensures book { W.tells → IfOk result (λ table. (book : Book) → SettlesBook number (W.state site.old) book → HoldsBook table (W.state site.new) book) }
+    ensures book { W.tells → IfOk result (λ table. (book : Book) → SettlesBook number (kinds_of def.now) def.now.key (W.state site.old) book → HoldsBook table (W.state site.new) book) }
     ensures damaged { W.tells → (damage : Damage) → IsErrOf result (TableFault.Damaged damage)
         → IsLogDamage number (W.state site.old (record { table = number; part = 0 })).bytes damage }
     // A crash at any moment of the call leaves the frames of the log from before it.
@@ -67,6 +98,8 @@ pub fn open_table<W: Site>(alloc: Global, site: &mut W, number: u32) -> Result<T
     ensures failed { IsErrOf result TableFault.Failed → HasRisen (W.disk_faults site.old) (W.disk_faults site.new) }
     ensures other_faults { W.say_faults site.new ≡ W.say_faults site.old }
 {
+    let kinds = kinds_of(alloc, def)?;
+    let key = def.key.copy(alloc)?;
     let file = FileId::table_log(number);
     begin(site, file)?;
     let mut gate = 0;
@@ -80,6 +113,8 @@ pub fn open_table<W: Site>(alloc: Global, site: &mut W, number: u32) -> Result<T
             None => {
                 return Ok(Table {
                     number,
+                    kinds,
+                    key,
                     log: Log::at(file, gate),
                     next_part,
                 });

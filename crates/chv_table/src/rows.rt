@@ -1,30 +1,34 @@
 // The rows of a table.
-ghost use Rattle.std.specs.Prelude.{◌≡◌, ◌<◌, ◌≤◌, ◌^◌, ℕ, IfOk, OnOk, IsErrOf, ◌++◌};
-ghost use Rattle.std.specs.List.{All};
+ghost use Rattle.std.specs.Prelude.{◌≡◌, ◌≤◌, ℕ, IfOk, OnOk, IsErrOf};
 ghost use Rattle.chv_site.specs.Faults.{HasRisen};
 ghost use Rattle.chv_site.specs.Files.{KeepsFiles};
 ghost use Rattle.chv_site.specs.Images.{IsLeft};
 ghost use Rattle.chv_site.specs.During.{During};
-ghost use Rattle.chv_part.specs.Parts.{part_file, rows_of};
+ghost use Rattle.chv_block.specs.Spellings.{AllAreOf};
+ghost use Rattle.chv_merge.specs.NormalForms.{normal_form};
+ghost use Rattle.chv_part.specs.Books.{Book, rows_in};
+ghost use Rattle.chv_part.specs.Parts.{part_file};
 ghost use Rattle.chv_part.specs.declared.damage.Damage.{Damage};
-ghost use Rattle.chv_table.specs.Books.{Book, rows_in, answer_of};
 ghost use Rattle.chv_table.specs.Damage.{IsDamageOfPart, IsPartDamage, ArePartsWhole};
-ghost use Rattle.chv_table.specs.Tables.{HoldsBook};
+ghost use Rattle.chv_table.specs.Tables.{AreColumns, IsWithin, HoldsBook};
 
 use crate::{Table, TableFault};
+use chv_merge::normal;
 use chv_part::{Damage, PartFault, read_part};
 use chv_site::{FIRST_PART, FileId, Site};
+use chv_types::{Block, Kinds, Row};
 use std::alloc::{AllocError, Global};
 
 impl Table {
-    /// All rows, ascending: the values of the one column. Each live part is read once, and no file changes.
+    /// All rows, in normal form. Each live part is read once, and no file changes.
     ///
     /// Damage is told of the first live part that is damaged.
-    pub fn rows<W: Site>(&self, alloc: Global, site: &mut W) -> Result<Vec<u64>, TableFault>
-        ensures rows { W.tells → IfOk result (λ values. (book : Book) → HoldsBook self.now (W.state site.old) book → rows_of values.items ≡ answer_of book) }
-        ensures whole { W.tells → OnOk result (ArePartsWhole self.now.number self.now.next_part (λ f. (W.state site.old f).bytes)) }
+    pub fn rows<W: Site>(&self, alloc: Global, site: &mut W) -> Result<Block, TableFault>
+        requires within { IsWithin self.now }
+        ensures rows { W.tells → IfOk result (λ rows. (book : Book) → HoldsBook self.now (W.state site.old) book → rows ≡ normal_form self.now.key (rows_in book)) }
+        ensures whole { W.tells → OnOk result (ArePartsWhole self.now.number self.now.kinds self.now.next_part (λ f. (W.state site.old f).bytes)) }
         ensures damaged { W.tells → (damage : Damage) → IsErrOf result (TableFault.Damaged damage)
-            → IsPartDamage self.now.number self.now.next_part (λ f. (W.state site.old f).bytes) damage }
+            → IsPartDamage self.now.number self.now.kinds self.now.next_part (λ f. (W.state site.old f).bytes) damage }
         ensures files { W.tells → KeepsFiles (W.state site.old) (W.state site.new) }
         ensures said { W.tells → W.said site.new ≡ W.said site.old }
         ensures during { W.tells → During W.moment W.left_since site.old site.new (IsLeft (W.state site.old) (W.said site.old)) }
@@ -32,17 +36,17 @@ impl Table {
         ensures failed { IsErrOf result TableFault.Failed → HasRisen (W.disk_faults site.old) (W.disk_faults site.new) }
         ensures other_faults { W.say_faults site.new ≡ W.say_faults site.old }
     {
-        let mut rows = self.read_parts(alloc, site)?;
-        rows.sort()?;
-        Ok(rows)
+        let rows = self.read_parts(alloc, site)?;
+        Ok(normal(&self.key, Block::of_items(rows))?)
     }
 
-    // The values of all live parts, in the order of arrival.
-    fn read_parts<W: Site>(&self, alloc: Global, site: &mut W) -> Result<Vec<u64>, TableFault>
-        ensures rows { W.tells → IfOk result (λ values. (book : Book) → HoldsBook self.now (W.state site.old) book → rows_of values.items ≡ rows_in book) }
-        ensures whole { W.tells → OnOk result (ArePartsWhole self.now.number self.now.next_part (λ f. (W.state site.old f).bytes)) }
+    // The rows of all live parts, in the order of arrival.
+    fn read_parts<W: Site>(&self, alloc: Global, site: &mut W) -> Result<Vec<Row>, TableFault>
+        requires columns { AreColumns self.now.kinds }
+        ensures rows { W.tells → IfOk result (λ rows. (book : Book) → HoldsBook self.now (W.state site.old) book → rows.items ≡ rows_in book) }
+        ensures whole { W.tells → OnOk result (ArePartsWhole self.now.number self.now.kinds self.now.next_part (λ f. (W.state site.old f).bytes)) }
         ensures damaged { W.tells → (damage : Damage) → IsErrOf result (TableFault.Damaged damage)
-            → IsPartDamage self.now.number self.now.next_part (λ f. (W.state site.old f).bytes) damage }
+            → IsPartDamage self.now.number self.now.kinds self.now.next_part (λ f. (W.state site.old f).bytes) damage }
         ensures files { W.tells → KeepsFiles (W.state site.old) (W.state site.new) }
         ensures said { W.tells → W.said site.new ≡ W.said site.old }
         ensures during { W.tells → During W.moment W.left_since site.old site.new (IsLeft (W.state site.old) (W.said site.old)) }
@@ -50,25 +54,28 @@ impl Table {
         ensures failed { IsErrOf result TableFault.Failed → HasRisen (W.disk_faults site.old) (W.disk_faults site.new) }
         ensures other_faults { W.say_faults site.new ≡ W.say_faults site.old }
     {
-        let mut values = Vec::new(alloc);
+        let mut rows = Vec::new(alloc);
         for part in FIRST_PART..self.next_part {
-            let read = read_live_part(alloc, site, self.number, part)?;
-            push_values(&mut values, &read)?;
+            let read = read_live_part(alloc, site, self.number, part, &self.kinds)?;
+            rows.append(&mut read.into_items())?;
         }
-        Ok(values)
+        Ok(rows)
     }
 }
 
-// The values of one live part.
+// The rows of one live part of a table with columns of these kinds.
 fn read_live_part<W: Site>(
     alloc: Global,
     site: &mut W,
     table: u32,
     part: u64,
-) -> Result<Vec<u64>, TableFault>
-    ensures read { W.tells → IfOk result (λ values. (W.state site.old (record { table = table; part = part })).bytes ≡ part_file 1 (rows_of values.items)) }
+    kinds: &Kinds,
+) -> Result<Block, TableFault>
+    requires columns { AreColumns kinds.now }
+    ensures kinds { IfOk result (λ rows. AllAreOf kinds.now rows) }
+    ensures read { W.tells → IfOk result (λ rows. (W.state site.old (record { table = table; part = part })).bytes ≡ part_file kinds.now rows) }
     ensures damaged { W.tells → (damage : Damage) → IsErrOf result (TableFault.Damaged damage)
-        → IsDamageOfPart table part (W.state site.old (record { table = table; part = part })).bytes damage }
+        → IsDamageOfPart table kinds.now part (W.state site.old (record { table = table; part = part })).bytes damage }
     ensures files { W.tells → KeepsFiles (W.state site.old) (W.state site.new) }
     ensures said { W.tells → W.said site.new ≡ W.said site.old }
     ensures during { W.tells → During W.moment W.left_since site.old site.new (IsLeft (W.state site.old) (W.said site.old)) }
@@ -76,8 +83,8 @@ fn read_live_part<W: Site>(
     ensures failed { IsErrOf result TableFault.Failed → HasRisen (W.disk_faults site.old) (W.disk_faults site.new) }
     ensures other_faults { W.say_faults site.new ≡ W.say_faults site.old }
 {
-    match read_part(alloc, site, FileId::part(table, part)) {
-        Ok(values) => Ok(values),
+    match read_part(alloc, site, FileId::part(table, part), kinds) {
+        Ok(rows) => Ok(rows),
         Err(fault) => Err(part_fault(table, part, fault)),
     }
 }
@@ -100,12 +107,4 @@ fn part_fault(table: u32, part: u64, fault: PartFault) -> TableFault
         PartFault::Shape => TableFault::Damaged(Damage::PartShape { table, part }),
         PartFault::NoMemory => TableFault::NoMemory,
     }
-}
-
-// Puts the values of a part behind those of the parts before it. As their type says, they are words.
-fn push_values(values: &mut Vec<u64>, read: &[u64]) -> Result<(), AllocError>
-    ensures pushed { OnOk result (values.new.items ≡ values.old.items ++ read.now) }
-    ensures words { All (λ value. value < 2 ^ 64) read.now }
-{
-    values.extend_from_slice(read)
 }

@@ -1,13 +1,17 @@
 // A table over a site in memory: its rows, and what is told of parts that are damaged.
-ghost use Rattle.std.specs.Prelude.{IfOk, OnOk};
+ghost use Rattle.std.specs.Prelude.{◌≡◌, [], ◌∷◌, IfOk, OnOk};
+ghost use Rattle.chv_block.specs.Spellings.{AllAreOf};
 ghost use Rattle.chv_site.specs.MemSite.{files_of};
 ghost use Rattle.chv_table.specs.Tables.{IsWithin, IsPlaced};
 
-use crate::{MAX_ENTRIES, PutFault, Table, TableFault};
-use chv_gate::{Log, begin};
-use chv_part::Damage;
-use chv_site::{FIRST_PART, Failed, Fails, FileId, MemSite, Site};
-use std::alloc::Global;
+use crate::opening_tests::numbers;
+use crate::{MAX_ENTRIES, PutFault, Table, TableFault, begin_table};
+use chv_ast::Seq;
+use chv_part::{Damage, encode_part};
+use chv_sip::BlockId;
+use chv_site::{Fails, FileId, MemSite, Site};
+use chv_types::{Block, Kind, Kinds, Row, Scalar, Value};
+use std::alloc::{AllocError, Global};
 use std::test::Fail;
 
 // The file of a part with the row 2, which keeps the hash of a body with the row 1.
@@ -17,28 +21,48 @@ const OTHER_ROW: [u8; 45] = [
 ];
 
 // A site whose call of this number fails; 0 for none.
-fn site(alloc: Global, failing: u64) -> Result<MemSite, Fail> {
+fn site(alloc: Global, failing: u64) -> Result<MemSite, AllocError> {
     let mut fails = Fails::new(alloc);
     fails.push(failing)?;
     Ok(MemSite::new(alloc, fails))
 }
 
 // The first table, of which nothing is written. It takes four calls.
-fn begun(site: &mut MemSite) -> Result<Table, Failed>
+fn begun(alloc: Global, site: &mut MemSite) -> Result<Table, PutFault>
     ensures within { IfOk result IsWithin }
     ensures placed { IfOk result (λ table. IsPlaced table (files_of site.new)) }
 {
-    let file = FileId::table_log(1);
-    begin(site, file)?;
-    Ok(Table {
-        number: 1,
-        log: Log::at(file, 0),
-        next_part: FIRST_PART,
-    })
+    let def = numbers(alloc)?;
+    begin_table(alloc, site, 1, &def)
 }
 
-// Seven calls.
-fn deliver(alloc: Global, site: &mut MemSite, table: &mut Table, value: u64) -> Result<(), PutFault>
+// The kinds of its columns.
+fn one_column(alloc: Global) -> Result<Kinds, AllocError>
+    ensures { IfOk result (λ kinds. kinds ≡ Kind.Plain Scalar.UInt64 ∷ []) }
+{
+    let mut kinds: Kinds = Seq::new(alloc);
+    kinds.push(Kind::Plain(Scalar::UInt64))?;
+    Ok(kinds)
+}
+
+// A block of one row.
+fn one_row(alloc: Global, number: u64) -> Result<Block, AllocError>
+    ensures { IfOk result (AllAreOf (Kind.Plain Scalar.UInt64 ∷ [])) }
+{
+    let mut row: Row = Seq::new(alloc);
+    row.push(Value::Whole(number as i128))?;
+    let mut block: Block = Seq::new(alloc);
+    block.push(row)?;
+    Ok(block)
+}
+
+// Delivers a block of one row. It takes seven calls.
+fn deliver(
+    alloc: Global,
+    site: &mut MemSite,
+    table: &mut Table,
+    number: u64,
+) -> Result<(), PutFault>
     requires within { IsWithin table.old }
     requires placed { IsPlaced table.old (files_of site.old) }
     ensures within { OnOk result (IsWithin table.new) }
@@ -47,23 +71,45 @@ fn deliver(alloc: Global, site: &mut MemSite, table: &mut Table, value: u64) -> 
     if table.entries() == MAX_ENTRIES {
         return Ok(());
     }
-    table.deliver(alloc, site, value)
+    let encoded = encode_part(alloc, &one_column(alloc)?, &one_row(alloc, number)?)?;
+    let id = BlockId {
+        first: number,
+        second: 0,
+    };
+    table.deliver(site, id, 1, encoded.as_slice())?;
+    Ok(())
+}
+
+// The number that a row begins with.
+fn number_at(rows: &Block, place: usize) -> Option<i128> {
+    match rows.get(place)?.get(0)? {
+        Value::Whole(number) => Some(*number),
+        _ => None,
+    }
+}
+
+// The first table, to which the numbers 3, 1 and 1 were delivered.
+fn filled(alloc: Global, site: &mut MemSite) -> Result<Table, PutFault>
+    ensures { IfOk result IsWithin }
+{
+    let mut table = begun(alloc, site)?;
+    deliver(alloc, site, &mut table, 3)?;
+    deliver(alloc, site, &mut table, 1)?;
+    deliver(alloc, site, &mut table, 1)?;
+    Ok(table)
 }
 
 #[test]
-fn rows_are_ascending(rt: HostRuntime) -> Result<(), Fail> {
+fn rows_are_in_normal_form(rt: HostRuntime) -> Result<(), Fail> {
     let alloc = rt.alloc();
     let mut site = site(alloc, 0)?;
-    let mut table = begun(&mut site)?;
-    let none = table.rows(alloc, &mut site)?;
-    assert_eq!(rt; none.as_slice(), [].as_slice());
-    deliver(alloc, &mut site, &mut table, 3)?;
-    deliver(alloc, &mut site, &mut table, 1)?;
-    deliver(alloc, &mut site, &mut table, 2)?;
-    deliver(alloc, &mut site, &mut table, 1)?;
-    assert_eq!(rt; table.entries(), 4);
+    let table = filled(alloc, &mut site)?;
+    assert_eq!(rt; table.entries(), 3);
     let rows = table.rows(alloc, &mut site)?;
-    assert_eq!(rt; rows.as_slice(), [1, 1, 2, 3].as_slice());
+    assert_eq!(rt; rows.len(), 3);
+    for (place, number) in [(0, 1), (1, 1), (2, 3)] {
+        assert_eq!(rt; number_at(&rows, place), Some(number), "at {place}");
+    }
     Ok(())
 }
 
@@ -71,15 +117,12 @@ fn rows_are_ascending(rt: HostRuntime) -> Result<(), Fail> {
 fn the_first_damaged_part_is_told(rt: HostRuntime) -> Result<(), Fail> {
     let alloc = rt.alloc();
     let mut site = site(alloc, 0)?;
-    let mut table = begun(&mut site)?;
-    deliver(alloc, &mut site, &mut table, 3)?;
-    deliver(alloc, &mut site, &mut table, 1)?;
-    deliver(alloc, &mut site, &mut table, 2)?;
+    let table = filled(alloc, &mut site)?;
     // The third part is gone.
     site.discard(FileId::part(1, 10))?;
     assert_eq!(rt;
-        table.rows(alloc, &mut site),
-        Err(TableFault::Damaged(Damage::PartShape {
+        table.rows(alloc, &mut site).err(),
+        Some(TableFault::Damaged(Damage::PartShape {
             table: 1,
             part: 10,
         }))
@@ -87,8 +130,8 @@ fn the_first_damaged_part_is_told(rt: HostRuntime) -> Result<(), Fail> {
     // The second part has another row than the one that it was hashed with.
     site.put(FileId::part(1, 9), 0, &OTHER_ROW)?;
     assert_eq!(rt;
-        table.rows(alloc, &mut site),
-        Err(TableFault::Damaged(Damage::PartHash {
+        table.rows(alloc, &mut site).err(),
+        Some(TableFault::Damaged(Damage::PartHash {
             table: 1,
             part: 9,
             kept: 0xe676_5cdc_d5cf_1169,
@@ -98,27 +141,30 @@ fn the_first_damaged_part_is_told(rt: HostRuntime) -> Result<(), Fail> {
     Ok(())
 }
 
+// A delivery on a site whose call of this number fails.
+fn delivered(alloc: Global, failing: u64) -> Result<(), PutFault> {
+    let mut site = site(alloc, failing)?;
+    let mut table = begun(alloc, &mut site)?;
+    deliver(alloc, &mut site, &mut table, 1)
+}
+
+// What ends the reading of a table with one part.
+fn read_fault(alloc: Global, failing: u64) -> Result<Option<TableFault>, PutFault> {
+    let mut site = site(alloc, failing)?;
+    let mut table = begun(alloc, &mut site)?;
+    deliver(alloc, &mut site, &mut table, 1)?;
+    Ok(table.rows(alloc, &mut site).err())
+}
+
 #[test]
 fn a_call_that_fails_is_told(rt: HostRuntime) -> Result<(), Fail> {
-    let alloc = rt.alloc();
     for failing in 5..12 {
-        let mut site = site(alloc, failing)?;
-        let mut table = begun(&mut site)?;
-        assert_eq!(rt;
-            deliver(alloc, &mut site, &mut table, 1),
-            Err(PutFault::Failed),
-            "at {failing}"
-        );
+        let delivered = delivered(rt.alloc(), failing);
+        assert_eq!(rt; delivered, Err(PutFault::Failed), "at {failing}");
     }
     for failing in 12..14 {
-        let mut site = site(alloc, failing)?;
-        let mut table = begun(&mut site)?;
-        deliver(alloc, &mut site, &mut table, 1)?;
-        assert_eq!(rt;
-            table.rows(alloc, &mut site),
-            Err(TableFault::Failed),
-            "at {failing}"
-        );
+        let fault = read_fault(rt.alloc(), failing)?;
+        assert_eq!(rt; fault, Some(TableFault::Failed), "at {failing}");
     }
     Ok(())
 }

@@ -1,20 +1,19 @@
 -- The log is begun, and then its commits are read.
-use Rattle.std.proofs.Common.{◌≡◌, ◌+◌, ◌<◌, List, ℕ, Option, IfSome, Err, refl, sym, ap, subst, ◌∙◌, arith}
+use Rattle.std.proofs.Common.{◌≡◌, ◌+◌, ◌<◌, List, ℕ, Option, IfSome, Err, sym, ap, subst, ◌∙◌, arith}
 use Rattle.std.proofs.lemmas.Result.{err_from_is_err_and}
 use Rattle.chv_site.specs.declared.file_id.FileId.{FileId}
 use Rattle.chv_site.specs.Files.{FileState, settled, KeepsOthers}
 use Rattle.chv_site.specs.During.{During}
 use Rattle.chv_gate.specs.GateLog.{HasFrames, begun}
 use Rattle.chv_gate.specs.Crashes.{IsLeftWith, LeavesFrames}
-use Rattle.chv_gate.specs.Reading.{IsOpen}
-use Rattle.chv_gate.specs.declared.log.Log.{Log}
 use Rattle.chv_gate.proofs.BegunLemmas.{during_begun}
 use Rattle.chv_part.specs.declared.damage.Damage.{Damage}
-use Rattle.chv_table.specs.Tables.{HoldsBook}
 use Rattle.chv_table.specs.declared.fault.TableFault.{TableFault}
+use Rattle.chv_table.specs.declared.table.Table.{Table}
 use Rattle.chv_table.specs.Opening.{ReadsCommit, LacksCommit}
 use Rattle.chv_table.specs.Commits.{MAX_ENTRIES}
-use Rattle.chv_table.proofs.OpeningLemmas.{log_of, read_none, read_next, read_damage, opened_book}
+use Rattle.chv_table.proofs.OpeningLemmas.{log_of, read_none, read_next, read_damage, HasOpened, log_ended, opened_commits, opened_frames, opened_book}
+use Rattle.chv_table.proofs.opening.open_table.Given.{Over}
 use Rattle.chv_table.proofs.opening.open_table.Goals as goal
 
 pub returns-in_err-begin-clause-during : goal.returns-in_err-begin-clause-during
@@ -32,6 +31,8 @@ commits-init g c =
     let now = S.state c.begin.new.site in
     let is = c.table_log-file.ensures in
     record {
+      kinds = c.in_ok-kinds.ensures;
+      key = c.in_ok-key.ensures;
       first = omega arith;
       bounded = omega arith;
       gate = omega arith;
@@ -77,6 +78,8 @@ commits-preserved g c =
     let forward : (c.in-Some.next ≡ c.commits.gate + 42) × (c.commits.next_part < 8 + MAX_ENTRIES) =
     subst (λ (read : Option ℕ). IfSome read (λ next. (next ≡ c.commits.gate + 42) × (c.commits.next_part < 8 + MAX_ENTRIES))) c.in-Some.is c.in_ok-next.ensures.forward in
     record {
+      kinds = so_far.kinds;
+      key = so_far.key;
       first = omega (arith, so_far.first);
       bounded = omega (arith, forward.1);
       gate = omega (arith, forward.0, so_far.gate, so_far.first);
@@ -95,22 +98,39 @@ commits-preserved g c =
       other_faults = c.in_ok-next.ensures.other_faults ∙ so_far.other_faults;
     }
 
+-- the log was read to its end
+module _ (g : Over) (c : goal.After-at g) where
+  abbrev table : Table
+  table = record { number = c.args.number; kinds = c.commits.kinds; key = c.commits.key; log = c.at.result; next_part = c.commits.next_part }
+
+  opened : g.W.Site.tells → HasOpened c.commits.gate (g.W.Site.state c.args.site.now) (g.W.Site.state c.read_commit.new.site) table
+  opened tells =
+      let S = g.W.Site in
+      let log = log_of c.args.number in
+      let before = S.state c.args.site.now in
+      let mid = S.state c.commits.site in
+      let so_far = c.commits.invariant in
+      let file : (mid c.table_log-file.result).bytes ≡ begun (before log).bytes = ap (λ (f : FileId). (mid f).bytes) c.table_log-file.ensures ∙ ap (λ (s : FileState). s.bytes) (so_far.begun_now tells) in
+      record {
+        log = c.at.ensures ∙ ap (λ (f : FileId). record { file = f; gate = c.commits.gate }) c.table_log-file.ensures;
+        begun_now = c.in_ok-next.ensures.files tells log ∙ so_far.begun_now tells;
+        others = λ f apart. c.in_ok-next.ensures.files tells f ∙ so_far.others tells f apart;
+        read = so_far.read tells;
+        ended = log_ended c.commits.gate c.commits.next_part (mid c.table_log-file.result).bytes (begun (before log).bytes) c.in_ok-next.field-0 file c.in-None.is (c.in_ok-next.ensures.read tells);
+      }
+
+pub returns-in-None-clause-commits : goal.returns-in-None-clause-commits
+returns-in-None-clause-commits g c = λ tells.
+    let S = g.W.Site in
+    let before = S.state c.args.site.now in
+    let now = S.state c.read_commit.new.site in
+    let is = opened g c tells in
+    (is.read.commits, opened_commits c.commits.gate before now (table g c) is, opened_frames c.commits.gate before now (table g c) is)
+
 pub returns-in-None-clause-book : goal.returns-in-None-clause-book
 returns-in-None-clause-book g c = λ tells book stood.
     let S = g.W.Site in
-    let log = log_of c.args.number in
-    let before = S.state c.args.site.now in
-    let mid = S.state c.commits.site in
-    let now = S.state c.read_commit.new.site in
-    let so_far = c.commits.invariant in
-    let is : c.at.result ≡ record { file = log; gate = c.commits.gate } = c.at.ensures ∙ ap (λ (f : FileId). record { file = f; gate = c.commits.gate }) c.table_log-file.ensures in
-    let file : (mid c.table_log-file.result).bytes ≡ begun (before log).bytes = ap (λ (f : FileId). (mid f).bytes) c.table_log-file.ensures ∙ ap (λ (s : FileState). s.bytes) (so_far.begun_now tells) in
-    let ended : IsOpen c.commits.gate (begun (before log).bytes) → ⊥ =
-    subst (ReadsCommit c.commits.gate c.commits.next_part (begun (before log).bytes)) c.in-None.is
-    (subst (λ (bytes : List ℕ). ReadsCommit c.commits.gate c.commits.next_part bytes c.in_ok-next.field-0) file (c.in_ok-next.ensures.read tells)) in
-    subst (λ (l : Log). HoldsBook (record { number = c.args.number; log = l; next_part = c.commits.next_part }) now book) (sym is)
-    (opened_book (record { number = c.args.number; log = record { file = log; gate = c.commits.gate }; next_part = c.commits.next_part }) before now refl
-    (c.in_ok-next.ensures.files tells log ∙ so_far.begun_now tells) (λ f apart. c.in_ok-next.ensures.files tells f ∙ so_far.others tells f apart) (so_far.read tells) ended book stood)
+    opened_book c.commits.gate (S.state c.args.site.now) (S.state c.read_commit.new.site) (table g c) (opened g c tells) book (rw (c.commits.invariant.kinds, c.commits.invariant.key) stood)
 
 pub returns-in-None-clause-during : goal.returns-in-None-clause-during
 returns-in-None-clause-during g c = λ tells payloads leaves.

@@ -4,6 +4,7 @@ use Rattle.chv_site.specs.Files.{settled, KeepsOthers}
 use Rattle.chv_site.specs.During.{During}
 use Rattle.chv_gate.specs.GateLog.{HasFrames, begun}
 use Rattle.chv_gate.specs.Crashes.{IsLeftWith, LeavesFrames}
+use Rattle.chv_catalog.specs.Schemas.{kinds_of}
 use Rattle.chv_table.specs.Commits.{MAX_ENTRIES}
 use Rattle.chv_table.proofs.OpeningLemmas.{log_of, HasRead}
 use Rattle.chv_table.proofs.opening.open_table.Given as goal
@@ -15,6 +16,8 @@ invariant-commits g l =
     let now = S.state l.site in
     let log = log_of l.number in
     record {
+      kinds : l.kinds ≡ kinds_of l.def;
+      key : l.key ≡ l.def.key;
       first : 8 ≤ l.next_part;
       bounded : l.next_part ≤ 8 + MAX_ENTRIES;
       gate : l.gate ≡ 42 * (l.next_part - 8);
