@@ -1,18 +1,25 @@
 -- What is acknowledged stays so, and is held.
-use Rattle.std.proofs.Common.{◌≡◌, ◌⊎◌, inl, inr, ℕ, suc, ◌+◌, ◌≤◌, List, [], ◌∷◌, ◌++◌, length, take, Bool, true, false, Option, None, Some, IfSome, All, Contains, refl, sym, ap, subst, ◌∙◌, arith, append_assoc, if◌then◌else◌, ◌==◌, eqb-true, eq-eqb, bytes_eq, option_map, nat_lt}
-use Rattle.std.proofs.lemmas.List.{append-nil, length-append, length-take}
+use Rattle.std.proofs.Common.{◌≡◌, ◌⊎◌, inl, inr, ℕ, ◌+◌, ◌≤◌, List, [], ◌∷◌, ◌++◌, length, take, Bool, true, false, Option, None, Some, Ok, Err, IfOk, All, Contains, refl, sym, ap, subst, ◌∙◌, arith, append_assoc, if◌then◌else◌, ◌==◌, eqb-true, eq-eqb}
+use Rattle.std.proofs.lemmas.List.{append-nil, length-append, length-map, length-take}
 use Rattle.std.proofs.lemmas.List.Elements.{All-nil, All-cons, All-append, All-push, All-weaker, Contains-append_left, Contains-push}
-use Rattle.chv_ast.specs.declared.refusal.Refusal.TheVariants.{Syntax, UnknownTable, NameTaken, BadLiteral, LimitPassed, NotBuilt}
+use Rattle.std.specs.Prelude.{Result}
+use Rattle.chv_ast.specs.declared.refusal.Refusal.{Refusal}
+use Rattle.chv_ast.specs.declared.refusal.Refusal.TheVariants.{Syntax, LimitPassed, NotBuilt}
+use Rattle.chv_ast.specs.declared.statement.Statement.{Statement}
+use Rattle.chv_ast.specs.declared.statement.Statement.TheVariants as statement
+use Rattle.chv_catalog.specs.declared.table_def.TableDef.{TableDef}
+use Rattle.chv_define.specs.Definitions.{defined}
+use Rattle.chv_part.specs.Books.{Book, Entry, no_book, arrived}
+use Rattle.chv_plan.specs.Plans.{Delivery, planned, table_of}
 use Rattle.chv_site.specs.Files.{IsFrontOf}
-use Rattle.chv_table.specs.Books.{Book, Entry, no_book, arrived, entry_of}
-use Rattle.chv_table.specs.Commits.{MAX_ENTRIES}
 use Rattle.chv_text.specs.Replies.{ok_line, refused_line}
 use Rattle.chv_engine.specs.Acknowledged.{IsAcknowledged, IsDelivered, IsHeld}
 use Rattle.chv_engine.specs.Crashes.{text_of, says_next}
-use Rattle.chv_engine.specs.Histories.{TableDef, History, with_table}
-use Rattle.chv_engine.specs.Runs.{Event, Created, Committed, Replied, Delivery, Plan, Moment, delivered, happen, behind, table_named, refusal, create_new, insert_into, insert_known, shown_text, select_known, form_events, statement_events, request_events, run_events}
+use Rattle.chv_engine.specs.Forms.{is_built}
+use Rattle.chv_engine.specs.Histories.{Accepted, History, tables_of, with_table}
+use Rattle.chv_engine.specs.Runs.{Event, Created, Committed, Replied, Plan, Moment, delivered, happen, behind, refusal, create_events, insert_into, has_room, insert_events, shown_text, select_events, built_events, statement_events, request_events, run_events}
 use Rattle.chv_engine.specs.Script.{Request}
-use Rattle.chv_engine.specs.Forms.{Form, CreateTable, Insert, SelectAll, Unbuilt}
+use Rattle.chv_engine.proofs.LookupLemmas.{planned-within}
 
 -- lists with equal firsts and rests
 first_same : (x y : Event) (xs ys : List Event) → x ∷ xs ≡ y ∷ ys → x ≡ y
@@ -24,8 +31,8 @@ rest_same x y xs ys e = cc
 -- plans that are acknowledged stay so
 pub stays_acknowledged : (plans : List Plan) (events : List Event) (m : Moment) → IsAcknowledged plans m → IsAcknowledged plans (behind events m)
 stays_acknowledged plans [] m is = is
-stays_acknowledged plans (Created def ∷ events) m is =
-    stays_acknowledged plans events (happen (Created def) m) (record { earlier = is.earlier; later = is.later; among = is.among })
+stays_acknowledged plans (Created accepted ∷ events) m is =
+    stays_acknowledged plans events (happen (Created accepted) m) (record { earlier = is.earlier; later = is.later; among = is.among })
 stays_acknowledged plans (Committed delivery ∷ events) m is =
     stays_acknowledged plans events (happen (Committed delivery) m) (record { earlier = is.earlier; later = is.later; among = is.among })
 stays_acknowledged plans (Replied text more refuses ∷ events) m is =
@@ -41,7 +48,7 @@ acknowledges line plans refuses m = record { earlier = m.acknowledged; later = [
 
 -- an event says its text
 length-said_happen : (event : Event) (m : Moment) → length (happen event m).said ≡ length m.said + length (text_of event)
-length-said_happen (Created def) m = omega arith
+length-said_happen (Created accepted) m = omega arith
 length-said_happen (Committed delivery) m = omega arith
 length-said_happen (Replied text plans refuses) m = length-append m.said text
 
@@ -119,14 +126,14 @@ grown_book true new old entry grown is = grown refl
 grown_book false new old entry grown is = is
 
 -- a delivery stays delivered as a table is made
-delivered_created : (def : TableDef) (history : History) (d : Delivery) → IsDelivered history d → IsDelivered (with_table def history) d
-delivered_created def history d is =
-    let long = length-append history.schema (def ∷ []) in
+delivered_created : (accepted : Accepted) (history : History) (d : Delivery) → IsDelivered history d → IsDelivered (with_table accepted history) d
+delivered_created accepted history d is =
+    let long = length-append history.schema (accepted ∷ []) in
     record {
       counted = is.counted;
       stands = omega (arith, is.stands, long);
-      entry = other_book (d.table == length (history.schema ++ def ∷ [])) no_book (history.books d.table) d.entry
-          (λ same. absurd (omega (arith, is.stands, long, eqb-true d.table (length (history.schema ++ def ∷ [])) same))) is.entry;
+      entry = other_book (d.table == length (history.schema ++ accepted ∷ [])) no_book (history.books d.table) d.entry
+          (λ same. absurd (omega (arith, is.stands, long, eqb-true d.table (length (history.schema ++ accepted ∷ [])) same))) is.entry;
     }
 
 -- and as an entry arrives
@@ -155,11 +162,12 @@ kept old new plans keeps held = All-weaker (IsHeld old) (IsHeld new) (λ plan. A
 holding_reply : (text : List ℕ) (refuses : Bool) (m : Moment) → Holding m → HoldingWhile (Replied text [] refuses ∷ []) m
 holding_reply text refuses m held = (held, All-append (IsHeld m.history) m.acknowledged [] held (All-nil (IsHeld m.history)))
 
-holding_create : (client : ℕ) (taken : Option ℕ) (schema : List TableDef) (def : TableDef) (m : Moment) → Holding m → HoldingWhile (create_new client taken schema def) m
-holding_create client (Some table) schema def m held = holding_reply (refused_line client NameTaken) true m held
-holding_create client None [] def m held =
-    (held, holding_reply (ok_line client) false (happen (Created def) m) (kept m.history (with_table def m.history) m.acknowledged (delivered_created def m.history) held))
-holding_create client None (other ∷ others) def m held = holding_reply (refused_line client NotBuilt) true m held
+-- a statement makes a table, or is refused
+holding_create : (client : ℕ) (asked : Statement) (defines : Result TableDef Refusal) (m : Moment) → Holding m → HoldingWhile (create_events client asked defines) m
+holding_create client asked (Ok def) m held =
+    let accepted : Accepted = record { statement = asked; def = def } in
+    (held, holding_reply (ok_line client) false (happen (Created accepted) m) (kept m.history (with_table accepted m.history) m.acknowledged (delivered_created accepted m.history) held))
+holding_create client asked (Err refuses) m held = holding_reply (refused_line client refuses) true m held
 
 -- an insert is acknowledged behind its commit
 holding_insert_into : (client : ℕ) (d : Delivery) (m : Moment) → 1 ≤ d.table → d.table ≤ length m.history.schema → Holding m → HoldingWhile (insert_into client d) m
@@ -174,40 +182,39 @@ holding_insert_room : (client : ℕ) (room : Bool) (d : Delivery) (m : Moment) �
 holding_insert_room client true d m counted stands held = holding_insert_into client d m counted stands held
 holding_insert_room client false d m counted stands held = holding_reply (refused_line client LimitPassed) true m held
 
-holding_insert : (client : ℕ) (table : Option ℕ) (value : Option ℕ) (m : Moment) → IfSome table (λ n. (1 ≤ n) × (n ≤ length m.history.schema)) → Holding m → HoldingWhile (insert_known client table value m.history) m
-holding_insert client None value m known held = holding_reply (refused_line client UnknownTable) true m held
-holding_insert client (Some table) None m known held = holding_reply (refused_line client BadLiteral) true m held
-holding_insert client (Some table) (Some value) m known held =
-    holding_insert_room client (nat_lt (length (m.history.books table).entries) MAX_ENTRIES) (record { table = table; entry = entry_of value }) m known.0 known.1 held
+holding_insert : (client : ℕ) (brings : Result Delivery Refusal) (m : Moment) → IfOk brings (λ d. (1 ≤ d.table) × (d.table ≤ length m.history.schema)) → Holding m → HoldingWhile (insert_events client brings m.history) m
+holding_insert client (Ok d) m known held = holding_insert_room client (has_room (m.history.books d.table)) d m known.0 known.1 held
+holding_insert client (Err refuses) m known held = holding_reply (refused_line client refuses) true m held
 
-holding_select : (client : ℕ) (table : Option ℕ) (m : Moment) → Holding m → HoldingWhile (select_known client table m.history) m
-holding_select client None m held = holding_reply (refused_line client UnknownTable) true m held
-holding_select client (Some table) m held = holding_reply (shown_text client (m.history.books table)) false m held
+holding_select : (client : ℕ) (table : Result (ℕ × TableDef) Refusal) (m : Moment) → Holding m → HoldingWhile (select_events client table m.history) m
+holding_select client (Ok found) m held = holding_reply (shown_text client found.1.key (m.history.books found.0)) false m held
+holding_select client (Err refuses) m held = holding_reply (refused_line client refuses) true m held
 
--- a table that is named is one of the schema
-one_more : (table : Option ℕ) (most : ℕ) → IfSome table (λ n. (1 ≤ n) × (n ≤ most)) → IfSome (option_map (λ n. n + 1) table) (λ n. (1 ≤ n) × (n ≤ suc most))
-one_more None most known = tt
-one_more (Some n) most known = (omega arith, omega (arith, known.1))
+-- what is planned is for a table of the history
+planned_known : (asked : Statement) (schema : List Accepted) → IfOk (planned (tables_of schema) asked) (λ d. (1 ≤ d.table) × (d.table ≤ length schema))
+planned_known asked schema =
+    subst (λ (n : ℕ). IfOk (planned (tables_of schema) asked) (λ d. (1 ≤ d.table) × (d.table ≤ n))) (length-map schema (λ (accepted : Accepted). accepted.def)) (planned-within (tables_of schema) asked)
 
-named_here : (same : Bool) (table : Option ℕ) (most : ℕ) → IfSome table (λ n. (1 ≤ n) × (n ≤ most))
-    → IfSome (if same then Some 1 else option_map (λ n. n + 1) table) (λ n. (1 ≤ n) × (n ≤ suc most))
-named_here true table most known = (omega arith, omega arith)
-named_here false table most known = one_more table most known
+holding_built : (client : ℕ) (asked : Statement) (m : Moment) → Holding m → HoldingWhile (built_events client asked m.history) m
+holding_built client (statement.CreateTable name columns engine key window) m held =
+    let create = statement.CreateTable name columns engine key window in
+    holding_create client create (defined (tables_of m.history.schema) create) m held
+holding_built client (statement.Insert table columns settings rows) m held =
+    let insert = statement.Insert table columns settings rows in
+    holding_insert client (planned (tables_of m.history.schema) insert) m (planned_known insert m.history.schema) held
+holding_built client (statement.Query query) m held = holding_select client (table_of (tables_of m.history.schema) query.table) m held
+holding_built client (statement.CreateView name target query) m held = holding_reply (refused_line client NotBuilt) true m held
+holding_built client (statement.ShowParts table) m held = holding_reply (refused_line client NotBuilt) true m held
+holding_built client (statement.Optimize table) m held = holding_reply (refused_line client NotBuilt) true m held
+holding_built client statement.FlushQueue m held = holding_reply (refused_line client NotBuilt) true m held
 
-named_in : (name : List ℕ) (schema : List TableDef) → IfSome (table_named name schema) (λ n. (1 ≤ n) × (n ≤ length schema))
-named_in name [] = tt
-named_in name (def ∷ defs) = named_here (bytes_eq def.name name) (table_named name defs) (length defs) (named_in name defs)
+holding_known : (client : ℕ) (built : Bool) (asked : Statement) (m : Moment) → Holding m → HoldingWhile (if built then built_events client asked m.history else refusal client NotBuilt) m
+holding_known client true asked m held = holding_built client asked m held
+holding_known client false asked m held = holding_reply (refused_line client NotBuilt) true m held
 
-holding_form : (client : ℕ) (form : Form) (m : Moment) → Holding m → HoldingWhile (form_events client form m.history) m
-holding_form client (CreateTable name column) m held =
-    holding_create client (table_named name m.history.schema) m.history.schema (record { name = name; column = column }) m held
-holding_form client (Insert table value) m held = holding_insert client (table_named table m.history.schema) value m (named_in table m.history.schema) held
-holding_form client (SelectAll table) m held = holding_select client (table_named table m.history.schema) m held
-holding_form client Unbuilt m held = holding_reply (refused_line client NotBuilt) true m held
-
-holding_statement : (client : ℕ) (statement : Option Form) (m : Moment) → Holding m → HoldingWhile (statement_events client statement m.history) m
+holding_statement : (client : ℕ) (asked : Option Statement) (m : Moment) → Holding m → HoldingWhile (statement_events client asked m.history) m
 holding_statement client None m held = holding_reply (refused_line client Syntax) true m held
-holding_statement client (Some form) m held = holding_form client form m held
+holding_statement client (Some asked) m held = holding_known client (is_built asked) asked m held
 
 -- while requests are answered the history holds what is acknowledged
 pub holding_run : (requests : List Request) (m : Moment) → Holding m → HoldingWhile (run_events requests m) m

@@ -1,74 +1,85 @@
--- The canonical texts of tables, and the tables that they create.
-use Rattle.std.proofs.Common.{◌≡◌, ◌≢◌, ℕ, List, Option, Some, None, IfNone, IfSome, Bor, refl, sym, ap, ◌∙◌}
+-- The canonical texts of accepted statements, and the tables that they create.
+use Rattle.std.proofs.Common.{◌≡◌, ◌≢◌, ℕ, List, Bool, true, false, not, Some, None, Result, Ok, Err, refl, sym, ap, ap₂, ◌∙◌}
+use Rattle.std.specs.Str.{bytes_eq}
 use Rattle.std.proofs.lemmas.Slice.Eq.{bytes_eq-Decides}
+use Rattle.chv_ast.specs.declared.refusal.Refusal.{Refusal}
 use Rattle.chv_ast.specs.declared.statement.Statement.{Statement}
+use Rattle.chv_catalog.specs.declared.table_def.TableDef.{TableDef}
+use Rattle.chv_define.specs.Definitions.{defined}
 use Rattle.chv_parse.specs.StatementTexts.{statement_in}
-use Rattle.chv_engine.specs.Forms.{CreateTable, form_of}
-use Rattle.chv_engine.specs.SeenForms.{seen_form}
-use Rattle.chv_engine.specs.declared.form.Form.{Form as Held}
-use Rattle.chv_engine.specs.declared.form.Form.TheVariants as held
-use Rattle.chv_engine.specs.Histories.{TableDef, IsDef, catalog_payload}
-use Rattle.chv_engine.specs.Texts.{create_tree, create_text}
-use Rattle.chv_engine.proofs.FormLemmas.{form_formed}
+use Rattle.chv_print.specs.StatementTexts.{statement_text}
+use Rattle.chv_engine.specs.Forms.{is_built}
+use Rattle.chv_engine.specs.Histories.{Accepted, IsAccepted, catalog_payload}
 use Rattle.chv_engine.proofs.ReadingLemmas.{read_formed, read_back}
-
--- a table is built of the statement that creates it
-form_of-create_tree : (name column : List ℕ) → form_of (create_tree name column) ≡ CreateTable name column
-unfolding form_of
-form_of-create_tree name column = rw ((bytes_eq-Decides column column).1 refl) refl
 
 same_statement : (a b : Statement) → Some a ≡ Some b → a ≡ b
 same_statement a b same = cc
 
-same_table : (def : TableDef) (name column : List ℕ) → CreateTable def.name def.column ≡ CreateTable name column → (def.name ≡ name) × (def.column ≡ column)
-same_table def name column same = (cc, cc)
+same_def : (r : Result TableDef Refusal) (a b : TableDef) → r ≡ Ok a → r ≡ Ok b → a ≡ b
+same_def r a b x y = cc
 
--- of what is read of a table's canonical text that table is built
-pub text_form : (def : TableDef) (s : Statement) → IsDef def → statement_in (catalog_payload def) ≡ Some s → form_of s ≡ CreateTable def.name def.column
-text_form def s lawful read = ap form_of (same_statement s (create_tree def.name def.column) (sym read ∙ read_back def lawful)) ∙ form_of-create_tree def.name def.column
-
--- a canonical text creates one table
-pub text_unique : (def other : TableDef) → IsDef def → IsDef other → catalog_payload def ≡ catalog_payload other → (def.name ≡ other.name) × (def.column ≡ other.column)
-text_unique def other lawful lawful_other same =
-    same_table def other.name other.column
-    (sym (form_of-create_tree def.name def.column) ∙ text_form other (create_tree def.name def.column) lawful_other (ap statement_in (sym same) ∙ read_back def lawful))
-
--- a statement that creates a table, and whose canonical text this is not
-pub other_text : (text : List ℕ) (s : Statement) (name column : List ℕ) → statement_in text ≡ Some s → form_of s ≡ CreateTable name column
-    → text ≢ catalog_payload (record { name = name; column = column }) → (def : TableDef) → IsDef def → text ≢ catalog_payload def
-other_text text s name column read creates other def lawful is =
-    let same = same_table def name column (sym (text_form def s lawful (ap statement_in (sym is) ∙ read)) ∙ creates) in
-    other (is ∙ ap (λ (n : List ℕ). create_text n def.column) same.0 ∙ ap (λ (c : List ℕ). create_text name c) same.1)
-
--- a statement that creates no table
-pub no_create : (text : List ℕ) (s : Statement) → statement_in text ≡ Some s → ((name column : List ℕ) → form_of s ≢ CreateTable name column)
-    → (def : TableDef) → IsDef def → text ≢ catalog_payload def
-no_create text s read other def lawful is = other def.name def.column (text_form def s lawful (ap statement_in (sym is) ∙ read))
+-- the statement of an accepted text is the one that is read of it
+pub statement_read : (tables : List TableDef) (text : List ℕ) (s : Statement) (accepted : Accepted) → statement_in text ≡ Some s → IsAccepted tables accepted → text ≡ catalog_payload accepted
+    → s ≡ accepted.statement
+statement_read tables text s accepted read lawful is =
+    same_statement s accepted.statement (sym read ∙ ap statement_in is ∙ read_back accepted lawful.formed)
 
 -- a text that is no statement
-pub no_statement_read : (text : List ℕ) → statement_in text ≡ None → (def : TableDef) → IsDef def → text ≢ catalog_payload def
-no_statement_read text unread def lawful is = absurd (none_some (sym unread ∙ ap statement_in is ∙ read_back def lawful))
+pub none_read : (tables : List TableDef) (text : List ℕ) → statement_in text ≡ None → (accepted : Accepted) → IsAccepted tables accepted → text ≢ catalog_payload accepted
+none_read tables text unread accepted lawful is = absurd (none_some accepted.statement (sym unread ∙ ap statement_in is ∙ read_back accepted lawful.formed))
   where
-    none_some : {s : Statement} → None ≡ Some s → ⊥
-    none_some same = cc same
+    none_some : (s : Statement) → None ≡ Some s → ⊥
+    none_some s same = cc same
 
--- the names of a statement that creates a table are lawful
-pub def_read : (text : List ℕ) (s : Statement) (name column : List ℕ) → statement_in text ≡ Some s → form_of s ≡ CreateTable name column
-    → IsDef (record { name = name; column = column })
-def_read text s name column read creates = form_formed s name column (read_formed text s read) creates
+-- a text of a statement that is not built
+pub unbuilt_read : (tables : List TableDef) (text : List ℕ) (s : Statement) → statement_in text ≡ Some s → is_built s ≡ false
+    → (accepted : Accepted) → IsAccepted tables accepted → text ≢ catalog_payload accepted
+unbuilt_read tables text s read unbuilt accepted lawful is =
+    let same = ap is_built (statement_read tables text s accepted read lawful is) in
+    absurd (other (is_built s) unbuilt (same ∙ lawful.built))
+  where
+    other : (b : Bool) → b ≡ false → b ≡ true → ⊥
+    other b x y = cc
 
--- a form that is held is none that creates a table
-pub seen_other : (form : Held) → ((name column : Bor (List ℕ)) → form ≢ held.CreateTable name column) → (name column : List ℕ) → seen_form form ≢ CreateTable name column
-seen_other (held.CreateTable a b) other name column is = other a b refl
-seen_other (held.Insert table value) other name column is = cc is
-seen_other (held.SelectAll table) other name column is = cc is
-seen_other held.Unbuilt other name column is = cc is
+-- a text that is not the canonical one
+pub other_text : (tables : List TableDef) (text : List ℕ) (s : Statement) → statement_in text ≡ Some s → statement_text s ≢ text
+    → (accepted : Accepted) → IsAccepted tables accepted → text ≢ catalog_payload accepted
+other_text tables text s read other accepted lawful is = other (ap statement_text (statement_read tables text s accepted read lawful is) ∙ sym is)
 
--- what holds where nothing is there, and what holds of what is there
-pub if_none : {A : Type 0} {P Q : Type 0} (x : Option A) → IfNone x P → (P → Q) → IfNone x Q
-if_none None p f = f p
-if_none (Some a) p f = tt
+-- a text of a statement that is refused
+pub refused_read : (tables : List TableDef) (text : List ℕ) (s : Statement) (refusal : Refusal) → statement_in text ≡ Some s → defined tables s ≡ Err refusal
+    → (accepted : Accepted) → IsAccepted tables accepted → text ≢ catalog_payload accepted
+refused_read tables text s refusal read refused accepted lawful is =
+    let same = statement_read tables text s accepted read lawful is in
+    absurd (other accepted.def (sym refused ∙ ap (defined tables) same ∙ lawful.defines))
+  where
+    other : (def : TableDef) → Err refusal ≡ Ok def → ⊥
+    other def x = cc x
 
-pub if_some : {A : Type 0} {P Q : A → Type 0} (x : Option A) → IfSome x P → ((a : A) → P a → Q a) → IfSome x Q
-if_some None p f = tt
-if_some (Some a) p f = f a p
+-- a text of a statement that is accepted
+pub accepted_read : (tables : List TableDef) (text : List ℕ) (s : Statement) (def : TableDef) → statement_in text ≡ Some s → is_built s ≡ true → statement_text s ≡ text → defined tables s ≡ Ok def
+    → (accepted : Accepted) × IsAccepted tables accepted × (def ≡ accepted.def) × (text ≡ catalog_payload accepted)
+accepted_read tables text s def read built written defines =
+    (record { statement = s; def = def }, record { formed = read_formed text s read; built = built; defines = defines }, refl, sym written)
+
+-- what a test says of two texts
+pub differs : (xs ys : List ℕ) (ne : Bool) → ne ≡ not (bytes_eq xs ys) → ne ≡ true → xs ≢ ys
+differs xs ys ne is unequal same = contra (bytes_eq xs ys) (sym is ∙ unequal) ((bytes_eq-Decides xs ys).1 same)
+  where
+    contra : (b : Bool) → not b ≡ true → b ≡ true → ⊥
+    contra true x y = cc x
+    contra false x y = cc y
+
+pub is_same : (xs ys : List ℕ) (ne : Bool) → ne ≡ not (bytes_eq xs ys) → ne ≡ false → xs ≡ ys
+is_same xs ys ne is equal = (bytes_eq-Decides xs ys).0 (negated (bytes_eq xs ys) (sym is ∙ equal))
+  where
+    negated : (b : Bool) → not b ≡ false → b ≡ true
+    negated true x = refl
+    negated false x = cc x
+
+-- an accepted text is that of one statement
+pub text_unique : (tables : List TableDef) (a b : Accepted) → IsAccepted tables a → IsAccepted tables b → catalog_payload a ≡ catalog_payload b → a ≡ b
+text_unique tables a b lawful other same =
+    let one = statement_read tables (catalog_payload a) a.statement b (read_back a lawful.formed) other same in
+    ap₂ (λ (s : Statement) (def : TableDef). record { statement = s; def = def }) one
+    (same_def (defined tables a.statement) a.def b.def lawful.defines (ap (defined tables) one ∙ other.defines))

@@ -1,8 +1,7 @@
 -- What is read of a text that is cut into tokens, and of one that is not.
-use Rattle.std.proofs.Common.{◌≡◌, ℕ, List, Some, None, codes, refl}
+use Rattle.std.proofs.Common.{◌≡◌, ℕ, List, Some, None, refl}
 use Rattle.chv_ast.specs.Formed.{WellFormed}
 use Rattle.chv_ast.specs.GrammarStatements.{IsStatement}
-use Rattle.chv_ast.specs.Words.{is_word_text, IsName}
 use Rattle.chv_ast.specs.declared.statement.Statement.{Statement}
 use Rattle.chv_lex.specs.Lexemes.{lexemes}
 use Rattle.chv_lex.specs.Tokens.{Cut, IsFaultOf}
@@ -14,8 +13,7 @@ use Rattle.chv_lex.proofs.SpelledLaws.{written_is_formed}
 use Rattle.chv_parse.specs.StatementTexts.{statement_in}
 use Rattle.chv_parse.proofs.TextLaws.{statement_of-written, statement_of-none, statement_in-cut, statement_in-uncut, statement_in-written, written-statement_in}
 use Rattle.chv_print.proofs.StatementBack.{statement_reads_back}
-use Rattle.chv_engine.specs.Histories.{TableDef, IsDef, catalog_payload}
-use Rattle.chv_engine.specs.Texts.{create_tree, create_text}
+use Rattle.chv_engine.specs.Histories.{Accepted, catalog_payload}
 
 -- a text on which the lexer is stuck
 pub read_uncut : (text : List ℕ) (fault : LexFault) (place : ℕ) → fault ≡ lex_fault.BadToken place → IsFaultOf text fault → statement_in text ≡ None
@@ -33,15 +31,8 @@ read_unwritten text tokens cut none = statement_in-cut text tokens None cut (sta
 pub read_formed : (text : List ℕ) (s : Statement) → statement_in text ≡ Some s → WellFormed s
 read_formed text s read = written_is_formed text s (written-statement_in text s read)
 
--- the kind of the columns that are built is a name
-uint64_named : IsName (codes "UInt64")
-unfolding is_word_text
-uint64_named = refl
-
--- the canonical text of a table is read as the statement that creates it
-pub read_back : (def : TableDef) → IsDef def → statement_in (catalog_payload def) ≡ Some (create_tree def.name def.column)
-unfolding create_text
-read_back def lawful =
-    let tree = create_tree def.name def.column in
-    statement_in-written (catalog_payload def) tree
-    (statement_reads_back tree (catalog_payload def) refl (lawful.name, ((lawful.column, uint64_named), tt), (lawful.column, tt), tt))
+-- a canonical text is read as the statement that it is the text of
+pub read_back : (accepted : Accepted) → WellFormed accepted.statement → statement_in (catalog_payload accepted) ≡ Some accepted.statement
+read_back accepted formed =
+    statement_in-written (catalog_payload accepted) accepted.statement
+    (statement_reads_back accepted.statement (catalog_payload accepted) refl formed)

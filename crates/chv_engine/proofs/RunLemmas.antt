@@ -1,16 +1,17 @@
 -- How a run goes on from request to request.
 use Rattle.std.proofs.Common.{◌≡◌, ℕ, List, [], ◌∷◌, ◌++◌, Bool, true, false, ◌||◌, Some, refl, sym, ap, subst, ◌∙◌}
-use Rattle.std.specs.Prelude.{Option}
+use Rattle.chv_ast.specs.declared.statement.Statement.TheVariants as statement
+use Rattle.chv_catalog.specs.declared.table_def.TableDef.{TableDef}
+use Rattle.chv_lex.specs.declared.piece.Piece.{Piece}
 use Rattle.chv_site.specs.declared.file_id.FileId.{FileId}
 use Rattle.chv_site.specs.Files.{FileState}
 use Rattle.chv_site.specs.Images.{Image}
 use Rattle.chv_site.specs.During.{During}
 use Rattle.chv_site.proofs.Moments.{goes_on}
 use Rattle.chv_engine.specs.Crashes.{IsLeftBy, Reaches}
-use Rattle.chv_engine.specs.Damage.{first_statement}
+use Rattle.chv_engine.specs.Damage.{Shows, first_statement}
 use Rattle.chv_engine.specs.Runs.{Event, Moment, request_events, behind, run_events}
-use Rattle.chv_engine.specs.Script.{Request}
-use Rattle.chv_engine.specs.Forms.{Form, SelectAll}
+use Rattle.chv_engine.specs.Script.{Request, request_of, requests_in}
 use Rattle.chv_engine.specs.Stores.{IsAt, AnswersAs}
 use Rattle.chv_engine.specs.declared.store.Store.{Store}
 use Rattle.chv_engine.proofs.LeftLemmas.{behind-append, early, onward}
@@ -65,20 +66,13 @@ module _ (requests : List Request) (before : List ℕ) (first : Moment) (refused
       (λ image text between. reach.onward_left image text
       (subst (λ (es : List Event). IsLeftBy es before m image text) (sym all_events) (early events (run_events rest next) before m image text between)))
 
--- no request is left
-pub reaches_end : (requests : List Request) (before : List ℕ) (first : Moment) (refused : Bool) (store : Store) (files : FileId → FileState) (said : List ℕ) (left : List Request) → Reaches store files said before refused left requests first → left ≡ []
-    → AnswersAs store files said before refused (run_events requests first) first
-reaches_end requests before first refused store files said left reach none =
-    let last : reach.moment ≡ behind (run_events requests first) first =
-    ap (λ (rs : List Request). behind (run_events rs reach.moment) reach.moment) (sym none) ∙ reach.onward in
-    record {
-      at = subst (λ (end : Moment). IsAt store files said before end) last reach.at;
-      mark = ap (λ (end : Moment). end.refused) (sym last) ∙ reach.mark;
-    }
+-- the next piece is the next request
+pub requests_cut : (script : List ℕ) (pieces rest : List Piece) (piece : Piece) → pieces ≡ piece ∷ rest → requests_in script pieces ≡ request_of script piece ∷ requests_in script rest
+requests_cut script pieces rest piece cut = ap (requests_in script) cut
 
 -- the first statement is that of the first request
-pub first_of : (requests : List Request) (request : Request) (rest : List Request) (s : Option Form) → requests ≡ request ∷ rest → first_statement requests ≡ s → request.statement ≡ s
-first_of requests request rest s cut is = sym (ap first_statement cut) ∙ is
+pub first_of : (requests : List Request) (request : Request) (rest : List Request) → requests ≡ request ∷ rest → first_statement requests ≡ request.statement
+first_of requests request rest cut = ap first_statement cut
 
-pub no_statement : (requests : List Request) (name : List ℕ) → requests ≡ [] → first_statement requests ≡ Some (SelectAll name) → ⊥
-no_statement requests name none is = let first : first_statement [] ≡ Some (SelectAll name) = sym (ap first_statement none) ∙ is in absurd (cc first)
+pub no_statement : (requests : List Request) (tables : List TableDef) (table : ℕ) (def : TableDef) → requests ≡ [] → Shows (first_statement requests) tables table def → ⊥
+no_statement requests tables table def none shows = let first : first_statement [] ≡ Some (statement.Query shows.query) = sym (ap first_statement none) ∙ shows.is in absurd (cc first)

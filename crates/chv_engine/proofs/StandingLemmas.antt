@@ -1,9 +1,7 @@
 -- What a crash leaves of files that stand for a history, also while one of their logs is begun.
 use Rattle.std.proofs.Common.{true, false, ◌≡◌, ◌≢◌, ◌⊎◌, inl, inr, ℕ, ◌+◌, ◌<◌, ◌≤◌, List, [], ◌∷◌, length, map, refl, sym, ◌∙◌, ap, subst, arith}
-use Rattle.std.specs.List.{All}
 use Rattle.std.proofs.lemmas.Bool.{false≢true}
 use Rattle.std.proofs.lemmas.List.{append-nil}
-use Rattle.std.proofs.lemmas.List.Elements.{All-head, All-tail}
 use Rattle.chv_site.specs.declared.file_id.FileId.{FileId}
 use Rattle.chv_site.specs.Files.{FileState, settled, KeepsOthers}
 use Rattle.chv_site.specs.Images.{Image, IsFileImage, IsImage, IsLeft}
@@ -14,19 +12,18 @@ use Rattle.chv_gate.specs.GateLog.{HasFrames, IsReady}
 use Rattle.chv_gate.specs.Crashes.{IsLeftWith, LeavesFrames}
 use Rattle.chv_gate.proofs.GateLogLemmas.{unique, has_frames-IsReady}
 use Rattle.chv_part.specs.Parts.{part_file}
-use Rattle.chv_table.specs.Books.{Entry, EachPart}
+use Rattle.chv_catalog.specs.Schemas.{kinds_of}
+use Rattle.chv_part.specs.Books.{Entry}
+use Rattle.chv_table.specs.Books.{EachPart}
+use Rattle.chv_types.specs.declared.kind.Kind.{Kind}
 use Rattle.chv_engine.specs.Crashes.{StandsWith, IsLeftBy}
 use Rattle.chv_engine.specs.Runs.{Event, begins}
-use Rattle.chv_engine.specs.Histories.{TableDef, IsDef, History, Stands, Settles, catalog_payload}
+use Rattle.chv_engine.specs.Histories.{History, Stands, Settles, catalog_payload}
 use Rattle.chv_engine.proofs.LeftLemmas.{left_still}
-use Rattle.chv_engine.proofs.DefineLemmas.{text_unique}
 
--- the catalog's log, and that of the first table
+-- the catalog's log
 abbrev pub CATALOG : FileId
 CATALOG = record { table = 0; part = 0 }
-
-abbrev pub FIRST : FileId
-FIRST = record { table = 1; part = 0 }
 
 -- two names of files are one or differ
 pub file_cases : (f g : FileId) → (g ≡ f) ⊎ (g ≢ f)
@@ -53,11 +50,11 @@ module _ (history : History) (f : FileId) (is_log : f.part ≡ 0) (stands_there 
     | inr apart ↦ subst (HasFrames payloads) (sym (others g apart)) has
   ]
 
-  parts_kept : (table part : ℕ) (entries : List Entry) → 8 ≤ part → EachPart files (part_file 1) table part entries → EachPart image (part_file 1) table part entries
-  parts_kept table part [] behind parts = tt
-  parts_kept table part (entry ∷ entries) behind parts = (
+  parts_kept : (kinds : List Kind) (table part : ℕ) (entries : List Entry) → 8 ≤ part → EachPart files (part_file kinds) table part entries → EachPart image (part_file kinds) table part entries
+  parts_kept kinds table part [] behind parts = tt
+  parts_kept kinds table part (entry ∷ entries) behind parts = (
     others (record { table = table; part = part }) (part_apart f table part is_log behind) ∙ parts.0,
-    parts_kept table (part + 1) entries (omega arith) parts.1,
+    parts_kept kinds table (part + 1) entries (omega arith) parts.1,
   )
 
   -- the files stand for the same history
@@ -65,12 +62,12 @@ module _ (history : History) (f : FileId) (is_log : f.part ≡ 0) (stands_there 
   stands_kept stands = record {
     lawful = stands.lawful;
     catalog = frames_kept (record { table = 0; part = 0 }) (map catalog_payload history.schema) stands.catalog;
-    tables = λ table some known.
-        let was = stands.tables table some known in
+    tables = λ place accepted at.
+        let was = stands.tables place accepted at in
         record {
           lawful = was.lawful;
-          log = frames_kept (record { table = table; part = 0 }) _ was.log;
-          parts = parts_kept table 8 (history.books table).entries (omega arith) was.parts;
+          log = frames_kept (record { table = place + 1; part = 0 }) _ was.log;
+          parts = parts_kept (kinds_of accepted.def) (place + 1) 8 (history.books (place + 1)).entries (omega arith) was.parts;
         };
     others = λ table beyond.
         let same = others (record { table = table; part = 0 }) (other_table f table 0 (λ is. absurd (omega (arith, is, beyond, stands_there)))) in
@@ -125,19 +122,3 @@ pub untouched_left : (history : History) (files : FileId → FileState) (said : 
     → IsLeftBy events said (begins history) image text
 untouched_left history files said events image text settles left =
     left_still events said (begins history) image text (settles_left history files image settles left.0) (left.1 ∙ sym (append-nil said))
-
--- tables whose texts are the same are the same
-pub schema_unique : (xs ys : List TableDef) → All IsDef xs → All IsDef ys → map catalog_payload xs ≡ map catalog_payload ys → xs ≡ ys
-schema_unique [] [] of_xs of_ys same = refl
-schema_unique [] (y ∷ ys) of_xs of_ys same = cc
-schema_unique (x ∷ xs) [] of_xs of_ys same = cc
-schema_unique (x ∷ xs) (y ∷ ys) of_xs of_ys same =
-    let lawful = All-head IsDef x xs of_xs in
-    let other = All-head IsDef y ys of_ys in
-    let text : catalog_payload x ≡ catalog_payload y = cc in
-    let texts : map catalog_payload xs ≡ map catalog_payload ys = cc in
-    let first = text_unique x y lawful other text in
-    let rest = schema_unique xs ys (All-tail IsDef x xs of_xs) (All-tail IsDef y ys of_ys) texts in
-    ap (λ (l : List ℕ). record { name = l; column = x.column } ∷ xs) first.0
-    ∙ ap (λ (l : List ℕ). record { name = y.name; column = l } ∷ xs) first.1
-    ∙ ap (λ (l : List TableDef). y ∷ l) rest

@@ -8,7 +8,7 @@ use Rattle.chv_site.specs.During.{During}
 use Rattle.chv_site.proofs.Images.{kept_image}
 use Rattle.chv_site.proofs.Moments.{weakened, goes_on}
 use Rattle.chv_engine.specs.Crashes.{EitherStands, IsLeftBy}
-use Rattle.chv_engine.specs.Histories.{TableDef}
+use Rattle.chv_engine.specs.Histories.{Accepted}
 use Rattle.chv_engine.specs.Runs.{Event, Created, Replied, Plan, Moment, happen}
 use Rattle.chv_engine.specs.Stores.{IsWithin, IsAt, AnswersAs}
 use Rattle.chv_engine.specs.declared.store.Store.{Store}
@@ -43,13 +43,13 @@ module _ {S : Type 0} (moment : S → ℕ) (left_since : S → ℕ → Image →
       (λ image text left. left_first (Replied line plans mark ∷ []) before m image text (image_stands store files image m.history within at.holds left.0) (subst (λ (s : List ℕ). IsFrontOf line s text) at.text left.1))
 
   -- while a table is made, before its reply
-  pub created_during : (old new : S) (def : TableDef) (events : List Event) (said before : List ℕ) (m : Moment) → said ≡ before ++ m.said → During moment left_since old new (EitherStands m.history (happen (Created def) m).history said)
-      → During moment left_since old new (IsLeftBy (Created def ∷ events) before m)
-  created_during old new def events said before m is during =
-      weakened moment left_since old new (EitherStands m.history (happen (Created def) m).history said) (IsLeftBy (Created def ∷ events) before m) during
-      (λ image text left. elim left.stands as (λ _. IsLeftBy (Created def ∷ events) before m image text) [
-        | inl first ↦ left_still (Created def ∷ events) before m image text first (left.text_left ∙ is)
-        | inr second ↦ left_second (Created def) events before m image text second (nothing_more _ (before ++ m.said) text (left.text_left ∙ is))
+  pub created_during : (old new : S) (accepted : Accepted) (events : List Event) (said before : List ℕ) (m : Moment) → said ≡ before ++ m.said → During moment left_since old new (EitherStands m.history (happen (Created accepted) m).history said)
+      → During moment left_since old new (IsLeftBy (Created accepted ∷ events) before m)
+  created_during old new accepted events said before m is during =
+      weakened moment left_since old new (EitherStands m.history (happen (Created accepted) m).history said) (IsLeftBy (Created accepted ∷ events) before m) during
+      (λ image text left. elim left.stands as (λ _. IsLeftBy (Created accepted ∷ events) before m image text) [
+        | inl first ↦ left_still (Created accepted ∷ events) before m image text first (left.text_left ∙ is)
+        | inr second ↦ left_second (Created accepted) events before m image text second (nothing_more _ (before ++ m.said) text (left.text_left ∙ is))
       ])
 
   -- and then the reply behind an event that says nothing

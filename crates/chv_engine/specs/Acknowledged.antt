@@ -2,7 +2,8 @@
 use Rattle.std.specs.Prelude.{◌≡◌, ◌≤◌, List, ◌++◌, length}
 use Rattle.std.specs.List.{All, Contains}
 use Rattle.chv_engine.specs.Histories.{History}
-use Rattle.chv_engine.specs.Runs.{Delivery, Plan, Moment}
+use Rattle.chv_plan.specs.Plans.{Delivery}
+use Rattle.chv_engine.specs.Runs.{Plan, Moment}
 
 -- the plans of a reply are among those that are acknowledged
 pub record IsAcknowledged (plans : List Plan) (m : Moment) : Type 0 where

@@ -21,7 +21,7 @@ pub record EitherStands (old new : History) (said : List ℕ) (image : Image) (t
 
 -- what an event says
 abbrev pub text_of : Event → List ℕ
-text_of (Created def) = []
+text_of (Created accepted) = []
 text_of (Committed delivery) = []
 text_of (Replied text plans refuses) = text
 

@@ -1,16 +1,22 @@
 -- How a store is damaged: docs/FORMATS.md, "Damage".
-use Rattle.std.specs.Prelude.{ℕ, ◌≡◌, ◌⊎◌, ◌+◌, ◌≤◌, List, [], ◌∷◌, length, Option, None, Some}
+use Rattle.std.specs.Prelude.{ℕ, ◌≡◌, ◌⊎◌, ◌+◌, ◌<◌, ◌≤◌, List, [], ◌∷◌, length, map, true, Option, None, Some, Ok, slice_get}
 use Rattle.chv_site.specs.declared.file_id.FileId.{FileId}
+use Rattle.chv_ast.specs.declared.statement.Select.{Select}
+use Rattle.chv_ast.specs.declared.statement.Statement.{Statement}
+use Rattle.chv_ast.specs.declared.statement.Statement.TheVariants as statement
+use Rattle.chv_catalog.specs.Schemas.{kinds_of}
+use Rattle.chv_catalog.specs.declared.table_def.TableDef.{TableDef}
 use Rattle.chv_gate.specs.GateLog.{HasFrames}
 use Rattle.chv_gate.specs.Reading.{IsDamagedAt}
 use Rattle.chv_part.specs.declared.damage.Damage.{Damage}
 use Rattle.chv_part.specs.declared.damage.Damage.TheVariants.{Catalog}
+use Rattle.chv_plan.specs.Plans.{table_of}
 use Rattle.chv_table.specs.Commits.{Commit, adds, MAX_ENTRIES}
 use Rattle.chv_table.specs.Damage.{IsLogDamage, IsPartDamage}
 use Rattle.chv_engine.specs.DamageLines.{damage_line}
-use Rattle.chv_engine.specs.Histories.{TableDef, IsDef, AreTexts, catalog_payload}
+use Rattle.chv_engine.specs.Forms.{is_whole_table}
+use Rattle.chv_engine.specs.Histories.{Accepted, tables_of, IsSchema, AreTexts, catalog_payload}
 use Rattle.chv_engine.specs.Script.{Request}
-use Rattle.chv_engine.specs.Forms.{Form, SelectAll}
 
 -- the bytes of each file
 abbrev pub Files : Type 0
@@ -22,45 +28,76 @@ pub record IsCatalogDamaged (files : Files) (line : List ℕ) : Type 0 where
   pub damaged : IsDamagedAt AreTexts at (files (record { table = 0; part = 0 }))
   pub told : line ≡ damage_line (Catalog at) []
 
--- the catalog's log has the text of this table alone
-pub record HasTable (files : Files) (def : TableDef) : Type 0 where
-  pub lawful : IsDef def
-  pub frames : HasFrames (catalog_payload def ∷ []) (files (record { table = 0; part = 0 }))
+-- the catalog's log has the texts of this schema
+pub record HasSchema (files : Files) (schema : List Accepted) : Type 0 where
+  pub lawful : IsSchema schema
+  pub frames : HasFrames (map catalog_payload schema) (files (record { table = 0; part = 0 }))
 
--- the catalog's log has a table, whose log is damaged, and this line tells it
+-- a table's log has so many commits, and is not damaged
+pub record HasCommits (files : Files) (table count : ℕ) : Type 0 where
+  pub commits : List Commit
+  pub counted : length commits ≡ count
+  pub bounded : count ≤ MAX_ENTRIES
+  pub log : HasFrames (adds 8 commits) (files (record { table = table; part = 0 }))
+
+-- the log of a table is not damaged
+abbrev pub IsLogWhole : Files → ℕ → Type 0
+IsLogWhole files table = (count : ℕ) × HasCommits files table count
+
+-- of the logs of the tables in the catalog, this damage is in the first that is damaged, that of a table of this name
+pub record IsFirstLogDamage (files : Files) (damage : Damage) (name : List ℕ) : Type 0 where
+  pub schema : List Accepted
+  pub has : HasSchema files schema
+  pub place : ℕ
+  pub accepted : Accepted
+  pub stands : slice_get schema place ≡ Some accepted
+  pub earlier : (p : ℕ) → p < place → IsLogWhole files (p + 1)
+  pub is : IsLogDamage (place + 1) (files (record { table = place + 1; part = 0 })) damage
+  pub named : name ≡ accepted.def.name
+
+-- the log of a table is damaged, and this line tells the first
 pub record IsTableDamaged (files : Files) (line : List ℕ) : Type 0 where
-  pub def : TableDef
-  pub has : HasTable files def
   pub damage : Damage
-  pub is : IsLogDamage 1 (files (record { table = 1; part = 0 })) damage
-  pub told : line ≡ damage_line damage def.name
+  pub name : List ℕ
+  pub is : IsFirstLogDamage files damage name
+  pub told : line ≡ damage_line damage name
 
 -- a log is damaged that is read as the store is opened, and this line tells the first
 abbrev pub IsOpeningDamaged : Files → List ℕ → Type 0
 IsOpeningDamaged files line = IsCatalogDamaged files line ⊎ IsTableDamaged files line
 
 -- the statement of the first request, where there is one
-abbrev pub first_statement : List Request → Option Form
+abbrev pub first_statement : List Request → Option Statement
 first_statement [] = None
 first_statement (request ∷ requests) = request.statement
 
--- no log is damaged, the first statement shows all rows of the table, and this line tells the first of its parts that is
+-- a statement shows all rows of the table of this number and this definition
+pub record Shows (asked : Option Statement) (tables : List TableDef) (table : ℕ) (def : TableDef) : Type 0 where
+  pub query : Select
+  pub is : asked ≡ Some (statement.Query query)
+  pub whole : is_whole_table query ≡ true
+  pub named : table_of tables query.table ≡ Ok (table, def)
+
+-- no log is damaged, the first statement shows all rows of a table, and this line tells the first of its parts that is
 -- damaged
 pub record MeetsDamage (files : Files) (requests : List Request) (line : List ℕ) : Type 0 where
+  pub schema : List Accepted
+  pub has : HasSchema files schema
+  pub logs : (p : ℕ) → p < length schema → IsLogWhole files (p + 1)
+  pub table : ℕ
   pub def : TableDef
-  pub has : HasTable files def
-  pub commits : List Commit
-  pub bounded : length commits ≤ MAX_ENTRIES
-  pub log : HasFrames (adds 8 commits) (files (record { table = 1; part = 0 }))
-  pub first : first_statement requests ≡ Some (SelectAll def.name)
+  pub shows : Shows (first_statement requests) (tables_of schema) table def
+  pub count : ℕ
+  pub commits : HasCommits files table count
   pub damage : Damage
-  pub is : IsPartDamage 1 (8 + length commits) files damage
+  pub is : IsPartDamage table (kinds_of def) (8 + count) files damage
   pub told : line ≡ damage_line damage def.name
 
 -- of the parts of a table from 8 on, some are whole and the next one is damaged, and this line tells it
 pub record IsPartDamaged (files : Files) (line : List ℕ) : Type 0 where
-  pub name : List ℕ
+  pub table : ℕ
+  pub def : TableDef
   pub next : ℕ
   pub damage : Damage
-  pub is : IsPartDamage 1 next files damage
-  pub told : line ≡ damage_line damage name
+  pub is : IsPartDamage table (kinds_of def) next files damage
+  pub told : line ≡ damage_line damage def.name

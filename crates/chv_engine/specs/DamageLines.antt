@@ -1,11 +1,8 @@
 -- What is said of damage: docs/FORMATS.md, "Damage".
-use Rattle.std.specs.Prelude.{ℕ, zero, suc, ◌/◌, ◌%◌, List, [], ◌∷◌, ◌++◌, slice_index, codes, decimal}
+use Rattle.std.specs.Prelude.{ℕ, zero, suc, ◌/◌, ◌%◌, List, [], ◌∷◌, ◌++◌, codes, decimal}
 use Rattle.chv_part.specs.declared.damage.Damage.{Damage}
+use Rattle.chv_text.specs.Rows.{hex_digit}
 use Rattle.chv_part.specs.declared.damage.Damage.TheVariants.{Catalog, Log, PartHash, PartShape}
-
--- the digit for a number below 16
-abbrev pub hex_digit : ℕ → ℕ
-hex_digit value = slice_index (codes "0123456789abcdef") value
 
 -- a number in so many hexadecimal digits: those of its sixteenth, and then the digit for the remainder
 unfoldable pub hex_digits : ℕ → ℕ → List ℕ

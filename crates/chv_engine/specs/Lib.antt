@@ -12,7 +12,5 @@ pub mod Openings
 pub mod Pulls
 pub mod Runs
 pub mod Script
-pub mod SeenForms
 pub mod Stores
-pub mod Texts
 pub mod Words

@@ -1,7 +1,8 @@
 -- What the opening of a store finds.
-use Rattle.std.specs.Prelude.{ℕ, ⊤, ◌≡◌, ◌+◌, ◌≤◌, List, [], ◌∷◌, length, map, Option, None, Some}
+use Rattle.std.specs.Prelude.{ℕ, ⊤, ◌≡◌, ◌+◌, ◌<◌, ◌≤◌, List, [], map, Option, None, Some, slice_get}
 use Rattle.std.specs.declared.vec.Vec.{Vec}
 use Rattle.std.specs.declared.alloc.Global.{Global}
+use Rattle.chv_catalog.specs.declared.table_def.TableDef.{TableDef}
 use Rattle.chv_site.specs.Files.{FileState}
 use Rattle.chv_gate.specs.GateLog.{HasFrames, IsReady}
 use Rattle.chv_gate.specs.Reading.{IsOpen, IsFollowed, IsDamagedAt}
@@ -9,41 +10,36 @@ use Rattle.chv_gate.specs.declared.fault.GateFault.{GateFault}
 use Rattle.chv_gate.specs.declared.fault.GateFault.TheVariants as gate_fault
 use Rattle.chv_part.specs.declared.damage.Damage.{Damage}
 use Rattle.chv_part.specs.declared.damage.Damage.TheVariants.{Catalog}
-use Rattle.chv_table.specs.Commits.{Commit, adds, MAX_ENTRIES}
 use Rattle.chv_table.specs.Damage.{IsLogDamage}
 use Rattle.chv_table.specs.declared.fault.TableFault.{TableFault}
 use Rattle.chv_table.specs.declared.fault.TableFault.TheVariants as table_fault
-use Rattle.chv_engine.specs.Damage.{Files, HasTable}
-use Rattle.chv_engine.specs.Histories.{TableDef, IsDef, IsSchema, AreTexts, catalog_payload}
+use Rattle.chv_table.specs.declared.table.Table.{Table}
+use Rattle.chv_engine.specs.Damage.{Files, HasSchema, HasCommits, IsLogWhole, IsFirstLogDamage}
+use Rattle.chv_engine.specs.Histories.{Accepted, IsAccepted, tables_of, IsSchema, AreTexts, catalog_payload}
+use Rattle.chv_engine.specs.Stores.{EachTable}
 use Rattle.chv_engine.specs.declared.opening.Catalog.{Catalog as OpenedCatalog}
 use Rattle.chv_engine.specs.declared.opening.OpenFault.{OpenFault}
 use Rattle.chv_engine.specs.declared.opening.OpenFault.TheVariants as fault
 use Rattle.chv_engine.specs.declared.opening.TableRead.{TableRead}
-use Rattle.chv_engine.specs.declared.store.NamedTable.{NamedTable}
 use Rattle.chv_engine.specs.declared.store.Store.{Store}
 
--- what is read behind a gate of the catalog's log: the end, at a gate that is not open; else the name of a table whose text
--- follows that gate, and the next gate
-abbrev pub ReadsTable : ℕ → List ℕ → Option TableRead → Type 0
-ReadsTable gate file None = IsOpen gate file → ⊥
-ReadsTable gate file (Some read) =
-    (def : TableDef) × IsDef def × (read.name.items ≡ def.name) × IsOpen gate file × IsFollowed gate (catalog_payload def) read.next file
+-- what is read behind a gate of the catalog's log, beside the tables that stand: the end, at a gate that is not open; else
+-- the table of an accepted statement, whose text follows that gate, and the next gate
+abbrev pub ReadsTable : List TableDef → ℕ → List ℕ → Option TableRead → Type 0
+ReadsTable tables gate file None = IsOpen gate file → ⊥
+ReadsTable tables gate file (Some read) =
+    (accepted : Accepted) × IsAccepted tables accepted × (read.def ≡ accepted.def) × IsOpen gate file × IsFollowed gate (catalog_payload accepted) read.next file
 
--- no text of a table follows an open gate
-pub record LacksTable (gate : ℕ) (file : List ℕ) : Type 0 where
+-- no text of a statement that is accepted beside these tables follows an open gate
+pub record LacksTable (tables : List TableDef) (gate : ℕ) (file : List ℕ) : Type 0 where
   pub opened : IsOpen gate file
-  pub none : (def : TableDef) (next : ℕ) → IsDef def → IsFollowed gate (catalog_payload def) next file → ⊥
+  pub none : (accepted : Accepted) (next : ℕ) → IsAccepted tables accepted → IsFollowed gate (catalog_payload accepted) next file → ⊥
 
--- the name that is kept of a schema's tables
-abbrev pub IsNameOf : Option (Vec ℕ Global) → List TableDef → Type 0
-IsNameOf None schema = schema ≡ []
-IsNameOf (Some name) schema = (column : List ℕ) × (schema ≡ record { name = name.items; column = column } ∷ [])
-
--- a catalog that is opened: before and now its log has the texts of the tables of a schema, and it is ready behind them
+-- a catalog that is opened: before and now its log has the texts of a schema, and it is ready behind them
 pub record HoldsCatalog (catalog : OpenedCatalog) (before : List ℕ) (now : FileState) : Type 0 where
-  pub schema : List TableDef
+  pub schema : List Accepted
   pub lawful : IsSchema schema
-  pub name : IsNameOf catalog.name schema
+  pub tables : catalog.schema.tables ≡ tables_of schema
   pub frames : HasFrames (map catalog_payload schema) before
   pub log : IsReady catalog.log.gate (map catalog_payload schema) now
 
@@ -64,35 +60,39 @@ open_fault_of table_fault.Failed name = fault.Failed
 open_fault_of (table_fault.Damaged damage) name = fault.Damaged damage name
 open_fault_of table_fault.NoMemory name = fault.NoMemory
 
--- a table that is opened: its name, and the number of its next part by the commits of its log; its parts are as they were
-pub record OpensTable (named : NamedTable) (old new : Files) : Type 0 where
-  pub def : TableDef
-  pub has : HasTable old def
-  pub name : named.name.items ≡ def.name
-  pub commits : List Commit
-  pub bounded : length commits ≤ MAX_ENTRIES
-  pub log : HasFrames (adds 8 commits) (old (record { table = 1; part = 0 }))
-  pub next : named.table.next_part ≡ 8 + length commits
-  pub parts : (part : ℕ) → 8 ≤ part → new (record { table = 1; part = part }) ≡ old (record { table = 1; part = part })
+-- a table that is opened: the number of its next part goes by the commits of its log, and its parts are as they were
+pub record OpensTable (old new : Files) (number : ℕ) (def : TableDef) (table : Table) : Type 0 where
+  pub count : ℕ
+  pub commits : HasCommits old number count
+  pub next : table.next_part ≡ 8 + count
+  pub parts : (part : ℕ) → 8 ≤ part → new (record { table = number; part = part }) ≡ old (record { table = number; part = part })
 
--- a store that is opened: it has no table where the catalog's log has no frame, else the one that the catalog's log has
-abbrev pub OpensTables : Option NamedTable → Files → Files → Type 0
-OpensTables None old new = HasFrames [] (old (record { table = 0; part = 0 }))
-OpensTables (Some named) old new = OpensTable named old new
+-- a store that is opened has the tables of the catalog's log
+pub record OpensAs (store : Store) (old new : Files) : Type 0 where
+  pub schema : List Accepted
+  pub has : HasSchema old schema
+  pub tables : store.schema.tables ≡ tables_of schema
+  pub logs : EachTable (OpensTable old new) 1 store.schema.tables store.tables.items
 
-abbrev pub OpensAs : Store → Files → Files → Type 0
-OpensAs store old new = OpensTables store.table old new
-
--- the catalog's log is damaged, as is told; or the catalog's log has a table of this name, whose log is damaged, as is told
-pub record IsNamedLogDamage (files : Files) (damage : Damage) (name : List ℕ) : Type 0 where
-  pub def : TableDef
-  pub has : HasTable files def
-  pub named : name ≡ def.name
-  pub is : IsLogDamage 1 (files (record { table = 1; part = 0 })) damage
-
+-- the catalog's log is damaged, as is told; or the log of a table of this name is, the first of those in the catalog
 abbrev pub IsDamageOf : Files → Damage → List ℕ → Type 0
 IsDamageOf files (Catalog at) name = (name ≡ []) × IsDamagedAt AreTexts at (files (record { table = 0; part = 0 }))
-IsDamageOf files damage name = IsNamedLogDamage files damage name
+IsDamageOf files damage name = IsFirstLogDamage files damage name
+
+-- of the logs of these tables, this damage is in the first that is damaged, that of a table of this name
+pub record IsFirstOf (tables : List TableDef) (files : Files) (damage : Damage) (name : List ℕ) : Type 0 where
+  pub place : ℕ
+  pub def : TableDef
+  pub stands : slice_get tables place ≡ Some def
+  pub earlier : (p : ℕ) → p < place → IsLogWhole files (p + 1)
+  pub is : IsLogDamage (place + 1) (files (record { table = place + 1; part = 0 })) damage
+  pub named : name ≡ def.name
+
+-- why the tables of a catalog were not opened
+abbrev pub IsTablesDamage : List TableDef → Files → OpenFault → Type 0
+IsTablesDamage tables files fault.Failed = ⊤
+IsTablesDamage tables files fault.NoMemory = ⊤
+IsTablesDamage tables files (fault.Damaged damage name) = IsFirstOf tables files damage name.items
 
 -- why a store was not opened
 abbrev pub IsOpeningDamage : Files → OpenFault → Type 0

@@ -3,12 +3,13 @@ use Rattle.std.specs.Prelude.{ℕ, ◌+◌, ◌-◌, List, ◌++◌, map, drop, 
 use Rattle.std.specs.List.{filter, flat_map, range_with_len}
 use Rattle.chv_lex.specs.Scripts.{pieces_of}
 use Rattle.chv_lex.specs.declared.piece.Piece.{Piece}
-use Rattle.chv_engine.specs.Forms.{Form, statement_of}
+use Rattle.chv_ast.specs.declared.statement.Statement.{Statement}
+use Rattle.chv_parse.specs.StatementTexts.{statement_in}
 
 -- a client asks for a statement, where its text is one
 pub record Request : Type 0 where
   pub client : ℕ
-  pub statement : Option Form
+  pub statement : Option Statement
 
 -- the pieces of a client, in the order of the script
 abbrev pub of_client : List Piece → ℕ → List Piece
@@ -24,7 +25,7 @@ left_at client place pieces = of_client (drop place pieces) client ++ from_clien
 
 -- what a piece of a script asks for
 abbrev pub request_of : List ℕ → Piece → Request
-request_of script piece = record { client = piece.client; statement = statement_of (slice_range script piece.start piece.end) }
+request_of script piece = record { client = piece.client; statement = statement_in (slice_range script piece.start piece.end) }
 
 -- what pieces of a script ask for
 abbrev pub requests_in : List ℕ → List Piece → List Request

@@ -1,54 +1,56 @@
 // Tables, read back from the canonical texts that create them.
-ghost use Rattle.std.specs.Prelude.{◌≡◌, ◌≢◌, Some, IfOk, IfNone, IfSome};
+ghost use Rattle.std.specs.Prelude.{◌≡◌, ◌≢◌, ◌≤◌, length, true, Some, IfOk, IfNone, IfSome};
+ghost use Rattle.chv_ast.specs.Formed.{WellFormed};
+ghost use Rattle.chv_catalog.specs.Schemas.{kinds_of};
 ghost use Rattle.chv_parse.specs.StatementTexts.{statement_in};
-ghost use Rattle.chv_engine.specs.Histories.{TableDef, IsDef, catalog_payload};
+ghost use Rattle.chv_table.specs.Tables.{AreColumns};
+ghost use Rattle.chv_engine.specs.Histories.{Accepted, IsAccepted, catalog_payload};
 
-use crate::form::{Form, form_of};
-use crate::print::create_text;
+use crate::built::is_built;
 use crate::reading::read;
 use chv_ast::Statement;
+use chv_catalog::{Schema, TableDef};
+use chv_define::{DefineFault, define};
+use chv_print::statement_text;
 use std::alloc::{AllocError, Global};
 
-/// The name of the table that a canonical text creates, and None for each other text, be it other by a single space.
-pub fn read_create(alloc: Global, text: &[u8]) -> Result<Option<Vec<u8>>, AllocError>
-    ensures none { IfOk result (λ read. IfNone read ((def : TableDef) → IsDef def → text.now ≢ catalog_payload def)) }
-    ensures some { IfOk result (λ read. IfSome read (λ name. (def : TableDef) × IsDef def × (name.items ≡ def.name) × (text.now ≡ catalog_payload def))) }
+/// The table that a canonical text creates beside the tables that stand; None for each other text, be it other by a
+/// single space, and for that of a statement that is refused.
+pub fn read_create(
+    alloc: Global,
+    schema: &Schema,
+    text: &[u8],
+) -> Result<Option<TableDef>, AllocError>
+    ensures none { IfOk result (λ read. IfNone read ((accepted : Accepted) → IsAccepted schema.now.tables accepted → text.now ≢ catalog_payload accepted)) }
+    ensures some { IfOk result (λ read. IfSome read (λ def. (accepted : Accepted) × IsAccepted schema.now.tables accepted × (def ≡ accepted.def) × (text.now ≡ catalog_payload accepted))) }
 {
     match read(alloc, text)? {
-        Some(statement) => table_of(alloc, &statement, text),
+        Some(statement) => table_of(alloc, schema, &statement, text),
         None => Ok(None),
     }
 }
 
-// The name of the table that a statement creates, where the text that it was read from is its canonical text.
+// The table that a statement creates, where it is built and the text that it was read from is its canonical text.
 fn table_of(
     alloc: Global,
+    schema: &Schema,
     statement: &Statement,
     text: &[u8],
-) -> Result<Option<Vec<u8>>, AllocError>
+) -> Result<Option<TableDef>, AllocError>
     requires read { statement_in text.now ≡ Some statement.now }
-    ensures none { IfOk result (λ read. IfNone read ((def : TableDef) → IsDef def → text.now ≢ catalog_payload def)) }
-    ensures some { IfOk result (λ read. IfSome read (λ name. (def : TableDef) × IsDef def × (name.items ≡ def.name) × (text.now ≡ catalog_payload def))) }
+    ensures none { IfOk result (λ read. IfNone read ((accepted : Accepted) → IsAccepted schema.now.tables accepted → text.now ≢ catalog_payload accepted)) }
+    ensures some { IfOk result (λ read. IfSome read (λ def. (accepted : Accepted) × IsAccepted schema.now.tables accepted × (def ≡ accepted.def) × (text.now ≡ catalog_payload accepted))) }
 {
-    match form_of(statement) {
-        Form::CreateTable { name, column } => table_named(alloc, name, column, text),
-        _ => Ok(None),
+    if !is_built(statement) {
+        return Ok(None);
     }
-}
-
-// The name of a table, where this is its canonical text.
-fn table_named(
-    alloc: Global,
-    name: &[u8],
-    column: &[u8],
-    text: &[u8],
-) -> Result<Option<Vec<u8>>, AllocError>
-    ensures none { IfOk result (λ read. IfNone read (text.now ≢ catalog_payload (record { name = name.now; column = column.now }))) }
-    ensures some { IfOk result (λ read. IfSome read (λ kept. (kept.items ≡ name.now) × (text.now ≡ catalog_payload (record { name = name.now; column = column.now })))) }
-{
-    let canonical = create_text(alloc, name, column)?;
+    let canonical = statement_text(alloc, statement)?;
     if canonical.as_slice() != text {
         return Ok(None);
     }
-    Ok(Some(Vec::from_slice(alloc, name)?))
+    match define(alloc, schema, statement) {
+        Ok(def) => Ok(Some(def)),
+        Err(DefineFault::Refused(_)) => Ok(None),
+        Err(DefineFault::NoMemory) => Err(AllocError),
+    }
 }

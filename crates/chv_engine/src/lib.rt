@@ -2,22 +2,21 @@
 #![tactic(auto)]
 
 mod answer;
+mod built;
 #[cfg(test)]
-mod canonical_texts;
+mod built_tests;
 mod create;
 mod damage;
 #[cfg(test)]
 mod damage_lines;
 mod define;
 mod fault;
-mod form;
 mod insert;
 mod laws;
 mod opening;
 #[cfg(test)]
 mod opening_tests;
 mod order;
-mod print;
 mod pull;
 mod reading;
 mod run;
@@ -27,8 +26,6 @@ mod say;
 mod select;
 mod status;
 mod store;
-#[cfg(test)]
-mod tests;
 mod top;
 mod words;
 

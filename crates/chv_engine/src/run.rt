@@ -2,16 +2,16 @@
 ghost use Rattle.std.specs.Prelude.{◌≡◌, ◌⊎◌, List, ℕ, Some, IfOk, OnOk, IsErrOf};
 ghost use Rattle.std.specs.List.{All};
 ghost use Rattle.chv_site.specs.During.{During};
+ghost use Rattle.chv_catalog.specs.declared.table_def.TableDef.{TableDef};
 ghost use Rattle.chv_lex.specs.Scripts.{IsPieceOf};
 ghost use Rattle.chv_engine.specs.Crashes.{IsLeftBy};
-ghost use Rattle.chv_engine.specs.Damage.{IsOpeningDamaged, MeetsDamage, first_statement};
+ghost use Rattle.chv_engine.specs.Damage.{IsOpeningDamaged, MeetsDamage, Shows, first_statement};
 ghost use Rattle.chv_engine.specs.Ends.{SaysDamage};
 ghost use Rattle.chv_engine.specs.Faults.{IsCaused};
 ghost use Rattle.chv_engine.specs.Histories.{History, Settles};
 ghost use Rattle.chv_engine.specs.Meets.{SaysPartDamage, MeetsPart, TellsOrFails};
 ghost use Rattle.chv_engine.specs.Runs.{Moment, begins, run_events};
 ghost use Rattle.chv_engine.specs.Script.{from_client, requests_in, requests_of};
-ghost use Rattle.chv_engine.specs.Forms.{SelectAll};
 ghost use Rattle.chv_engine.specs.Stores.{IsWithin, IsPlaced, IsAt, AnswersAs, EndsAt};
 
 use crate::fault::RunFault;
@@ -66,8 +66,8 @@ impl Store {
             → During W.moment W.left_since site.old site.new (IsLeftBy (run_events (requests_in script.now (from_client 0 pieces.now)) m) before m) }
         ensures damaged { W.tells → IsErrOf result RunFault.Damaged → SaysPartDamage (λ f. (W.state site.new f).bytes) (W.said site.new) }
         ensures undamaged { W.tells → (before : List ℕ) (m : Moment) → IsAt self.old (W.state site.old) (W.said site.old) before m → ¬ IsErrOf result RunFault.Damaged }
-        ensures meets { W.tells → (name line : List ℕ) → first_statement (requests_in script.now (from_client 0 pieces.now)) ≡ Some (SelectAll name)
-            → MeetsPart self.old (λ f. (W.state site.old f).bytes) name line → TellsOrFails result (W.said site.old) (W.said site.new) line }
+        ensures meets { W.tells → (table : ℕ) (def : TableDef) (line : List ℕ) → Shows (first_statement (requests_in script.now (from_client 0 pieces.now))) self.old.schema.tables table def
+            → MeetsPart self.old (λ f. (W.state site.old f).bytes) table def line → TellsOrFails result (W.said site.old) (W.said site.new) line }
         ensures within { OnOk result (IsWithin self.new) }
         ensures faults { IsCaused (W.disk_faults site.old) (W.disk_faults site.new) (W.say_faults site.old) (W.say_faults site.new) result }
     {

@@ -34,7 +34,7 @@ fn run(alloc: Global, site: &mut MemSite, script: &[u8]) -> Result<Status, Alloc
 
 #[test]
 fn each_piece_is_answered(rt: HostRuntime) -> Result<(), Fail> {
-    let cases: [(&[u8], Status, &[u8]); 12] = [
+    let cases: [(&[u8], Status, &[u8]); 16] = [
         (b"", Status::Done, b""),
         (b" ;\n; ", Status::Done, b""),
         (
@@ -53,11 +53,6 @@ fn each_piece_is_answered(rt: HostRuntime) -> Result<(), Fail> {
             b"@0 Ok.\n@0 Refused 4 NameTaken\n",
         ),
         (
-            b"CREATE TABLE t (a UInt64) ENGINE = MergeTree ORDER BY a;CREATE TABLE u (a UInt64) ENGINE = MergeTree ORDER BY a;INSERT INTO u VALUES (1)",
-            Status::SomeRefused,
-            b"@0 Ok.\n@0 Refused 16 NotBuilt\n@0 Refused 2 UnknownTable\n",
-        ),
-        (
             b"SELECT * FROM t;\xff\x00",
             Status::SomeRefused,
             b"@0 Refused 2 UnknownTable\n@0 Refused 1 Syntax\n",
@@ -68,9 +63,37 @@ fn each_piece_is_answered(rt: HostRuntime) -> Result<(), Fail> {
             b"@0 Ok.\n@0 Ok. 0 rows\n@0 Refused 2 UnknownTable\n",
         ),
         (
-            b"CREATE TABLE t (a UInt64) ENGINE = MergeTree ORDER BY a; INSERT INTO t VALUES (20); INSERT INTO t VALUES (3); INSERT INTO t VALUES (18446744073709551615); INSERT INTO t VALUES (3); SELECT * FROM t",
+            b"CREATE TABLE t (a UInt64) ENGINE = MergeTree ORDER BY a; INSERT INTO t VALUES (20); INSERT INTO t VALUES (3),(18446744073709551615); INSERT INTO t VALUES (3); SELECT * FROM t",
             Status::Done,
-            b"@0 Ok.\n@0 Ok. 1 written, 0 skipped\n@0 Ok. 1 written, 0 skipped\n@0 Ok. 1 written, 0 skipped\n@0 Ok. 1 written, 0 skipped\n3\n3\n20\n18446744073709551615\n@0 Ok. 4 rows\n",
+            b"@0 Ok.\n@0 Ok. 1 written, 0 skipped\n@0 Ok. 1 written, 0 skipped\n@0 Ok. 1 written, 0 skipped\n3\n3\n20\n18446744073709551615\n@0 Ok. 4 rows\n",
+        ),
+        // A list of columns fills them in its own order, the others have their defaults, and rows are shown by their values.
+        (
+            b"CREATE TABLE m (a Int8, b Bool, c String) ENGINE = MergeTree ORDER BY (c, a); INSERT INTO m (c, a) VALUES ('z',-1),('a',5); SELECT * FROM m;",
+            Status::Done,
+            b"@0 Ok.\n@0 Ok. 1 written, 0 skipped\n-1\tfalse\tz\n5\tfalse\ta\n@0 Ok. 2 rows\n",
+        ),
+        // Each table has its own rows.
+        (
+            b"CREATE TABLE t (a UInt64) ENGINE = MergeTree ORDER BY a; CREATE TABLE u (b Bool, c String) ENGINE = MergeTree ORDER BY tuple(); INSERT INTO u VALUES (TRUE, 'a\\tb''c'); INSERT INTO t VALUES (1); SELECT * FROM u; SELECT * FROM t",
+            Status::Done,
+            b"@0 Ok.\n@0 Ok.\n@0 Ok. 1 written, 0 skipped\n@0 Ok. 1 written, 0 skipped\ntrue\ta\\tb\\'c\n@0 Ok. 1 rows\n1\n@0 Ok. 1 rows\n",
+        ),
+        (
+            b"CREATE TABLE t (a UInt8) ENGINE = MergeTree ORDER BY a; INSERT INTO t VALUES (255); INSERT INTO t VALUES (256); INSERT INTO t VALUES (-1); INSERT INTO t VALUES (1,2); INSERT INTO t (b) VALUES (1); SELECT * FROM t",
+            Status::SomeRefused,
+            b"@0 Ok.\n@0 Ok. 1 written, 0 skipped\n@0 Refused 7 BadLiteral\n@0 Refused 7 BadLiteral\n@0 Refused 8 WrongWidth\n@0 Refused 3 UnknownColumn\n255\n@0 Ok. 1 rows\n",
+        ),
+        (
+            b"CREATE TABLE t (a UInt63) ENGINE = MergeTree ORDER BY a; CREATE TABLE t (a UInt8, a Bool) ENGINE = MergeTree ORDER BY a; CREATE TABLE t (a UInt8) ENGINE = MergeTree ORDER BY (a, a); CREATE TABLE t (a UInt8) ENGINE = AggregatingMergeTree ORDER BY a",
+            Status::SomeRefused,
+            b"@0 Refused 6 TypeMismatch\n@0 Refused 4 NameTaken\n@0 Refused 4 NameTaken\n@0 Refused 16 NotBuilt\n",
+        ),
+        // Not built comes in front of what the tables say.
+        (
+            b"SHOW PARTS t; SELECT a FROM t",
+            Status::SomeRefused,
+            b"@0 Refused 16 NotBuilt\n@0 Refused 16 NotBuilt\n",
         ),
         // Clients are answered by their numbers, each in the order of the script.
         (
@@ -119,6 +142,27 @@ fn files_have_the_worked_bytes(rt: HostRuntime) -> Result<(), Fail> {
         0,
     ];
     assert_eq!(rt; site.file(FileId::part(1, 8)), part.as_slice());
+    Ok(())
+}
+
+// The part of a block holds its rows in normal form, column by column, and its commit has the id of the block as it came.
+#[test]
+fn a_block_has_the_worked_bytes(rt: HostRuntime) -> Result<(), Fail> {
+    let mut site = MemSite::new(rt.alloc(), Fails::new(rt.alloc()));
+    let script =
+        b"CREATE TABLE s (k UInt64, v UInt64) ENGINE = MergeTree ORDER BY k; INSERT INTO s VALUES (2,20),(1,10)";
+    assert_eq!(rt; run(rt.alloc(), &mut site, script)?, Status::Done);
+    let part = [
+        b'C', b'H', b'V', b'P', b'A', b'R', b'T', b'1', 46, 0, 0, 0, 0, 0, 0, 0, 99, 245, 128, 122,
+        136, 23, 247, 178, 2, 0, 0, 0, 4, 4, 2, 0, 0, 0, 0, 0, 0, 0, 1, 0, 0, 0, 0, 0, 0, 0, 2, 0,
+        0, 0, 0, 0, 0, 0, 10, 0, 0, 0, 0, 0, 0, 0, 20, 0, 0, 0, 0, 0, 0, 0,
+    ];
+    assert_eq!(rt; site.file(FileId::part(1, 8)), part.as_slice());
+    let log = [
+        1, 37, 0, 0, 0, 1, 8, 0, 0, 0, 0, 0, 0, 0, 2, 0, 0, 0, 0, 0, 0, 0, 1, 0, 0, 0, 51, 9, 147,
+        204, 207, 49, 17, 249, 183, 1, 97, 91, 139, 62, 193, 125, 0,
+    ];
+    assert_eq!(rt; site.file(FileId::table_log(1)), log.as_slice());
     Ok(())
 }
 

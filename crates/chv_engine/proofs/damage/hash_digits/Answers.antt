@@ -1,7 +1,8 @@
 -- Each turn writes the last of the digits that are left.
 use Rattle.std.proofs.Common.{◌≡◌, ℕ, suc, ◌-◌, ◌/◌, ◌%◌, ◌<◌, List, ◌++◌, length, drop, set, length-set, refl, sym, ◌∙◌, append_assoc, add-one, arith}
 use Rattle.std.proofs.lemmas.List.{drop-set}
-use Rattle.chv_engine.specs.DamageLines.{hex_digit, hex_digits}
+use Rattle.chv_text.specs.Rows.{hex_digit}
+use Rattle.chv_engine.specs.DamageLines.{hex_digits}
 use Rattle.chv_engine.proofs.damage.hash_digits.Goals as goal
 
 -- the last digit of a number, in front of those that stand

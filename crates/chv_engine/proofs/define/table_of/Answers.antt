@@ -1,31 +1,26 @@
 -- The table that a canonical text creates.
-use Rattle.std.proofs.Common.{◌≡◌, ◌≢◌, ◌∙◌, ℕ, Option, Vec, Global, IfNone, IfSome, sym, ap}
-use Rattle.std.proofs.lemmas.Result.{IfOk-weaker}
-use Rattle.chv_engine.specs.Forms.{CreateTable, form_of}
-use Rattle.chv_engine.specs.Histories.{TableDef, IsDef, catalog_payload}
-use Rattle.chv_engine.specs.SeenForms.{seen_form}
-use Rattle.chv_engine.proofs.DefineLemmas.{other_text, no_create, def_read, seen_other, if_none, if_some}
+use Rattle.std.proofs.Common.{◌≡◌, true, sym, ◌∙◌}
+use Rattle.chv_engine.specs.Forms.{is_built}
+use Rattle.chv_engine.proofs.DefineLemmas.{unbuilt_read, other_text, refused_read, accepted_read, differs, is_same}
 use Rattle.chv_engine.proofs.define.table_of.Goals as goal
 
-pub returns-in-CreateTable-clause-none : goal.returns-in-CreateTable-clause-none
-returns-in-CreateTable-clause-none c =
-    let creates : form_of c.args.statement.now ≡ CreateTable c.in-CreateTable.name.now c.in-CreateTable.column.now = sym c.form_of.ensures ∙ ap seen_form c.in-CreateTable.is in
-    IfOk-weaker c.table_named.result _ (λ (read : Option (Vec ℕ Global)). IfNone read ((def : TableDef) → IsDef def → c.args.text.now ≢ catalog_payload def))
-    (λ read none. if_none read none (other_text c.args.text.now c.args.statement.now c.in-CreateTable.name.now c.in-CreateTable.column.now c.requires.read creates))
-    c.table_named.ensures.none
+pub returns-then-not-is_built-clause-none : goal.returns-then-not-is_built-clause-none
+unfolding is_built
+returns-then-not-is_built-clause-none c =
+    unbuilt_read c.args.schema.now.tables c.args.text.now c.args.statement.now c.requires.read (search)
 
-pub returns-in-CreateTable-clause-some : goal.returns-in-CreateTable-clause-some
-returns-in-CreateTable-clause-some c =
-    let name = c.in-CreateTable.name.now in
-    let column = c.in-CreateTable.column.now in
-    let creates : form_of c.args.statement.now ≡ CreateTable name column = sym c.form_of.ensures ∙ ap seen_form c.in-CreateTable.is in
-    let lawful = def_read c.args.text.now c.args.statement.now name column c.requires.read creates in
-    IfOk-weaker c.table_named.result _ (λ (read : Option (Vec ℕ Global)). IfSome read (λ kept. (def : TableDef) × IsDef def × (kept.items ≡ def.name) × (c.args.text.now ≡ catalog_payload def)))
-    (λ read some. if_some read some (λ kept is. (record { name = name; column = column }, lawful, is.0, is.1)))
-    c.table_named.ensures.some
+pub returns-then-ne-clause-none : goal.returns-then-ne-clause-none
+returns-then-ne-clause-none c =
+    other_text c.args.schema.now.tables c.args.text.now c.args.statement.now c.requires.read (λ same. differs c.as_slice.result.now c.args.text.now c.ne.result c.ne.ensures c.if-ne.true (c.as_slice.ensures.value ∙ c.in_ok-canonical.ensures.text ∙ same))
 
-pub returns-in_default : goal.returns-in_default
-returns-in_default c = record {
-  none = no_create c.args.text.now c.args.statement.now c.requires.read (λ name column is. seen_other c.form_of.result c.in_default.not-CreateTable name column (c.form_of.ensures ∙ is));
-  some = tt;
-}
+built : (c : goal.After-drop-canonical-in-Ok) → is_built c.args.statement.now ≡ true
+unfolding is_built
+built c = search
+
+pub returns-in-Ok-clause-some : goal.returns-in-Ok-clause-some
+returns-in-Ok-clause-some c =
+    accepted_read c.args.schema.now.tables c.args.text.now c.args.statement.now c.in-Ok.def c.requires.read (built c) (sym (c.as_slice.ensures.value ∙ c.in_ok-canonical.ensures.text) ∙ is_same c.as_slice.result.now c.args.text.now c.ne.result c.ne.ensures c.if-ne.false) c.in-Ok.ensures.defined
+
+pub returns-in-Err-Refused-clause-none : goal.returns-in-Err-Refused-clause-none
+returns-in-Err-Refused-clause-none c =
+    refused_read c.args.schema.now.tables c.args.text.now c.args.statement.now c.in-Err-Refused.field-0-0 c.requires.read (c.in-Err-Refused.ensures.refused c.in-Err-Refused.field-0-0 (search))

@@ -1,7 +1,9 @@
--- The catalog is opened, and then the table.
-use Rattle.std.proofs.Common.{Err, ap}
+-- The catalog is opened, and then the tables.
+use Rattle.std.proofs.Common.{Err, refl, sym, ap}
+use Rattle.std.proofs.lemmas.Result.{err_from_is_err_and}
 use Rattle.chv_table.specs.declared.fault.TableFault.{TableFault}
-use Rattle.chv_engine.proofs.OpenedLemmas.{holds_empty, holds_table, mid_settles, settles_book, one_table, catalog_during, table_during, opened_empty, opens_table, catalog_told, opened_told}
+use Rattle.chv_engine.proofs.OpenedLemmas.{are_tables, mid_settles, holds_store, opens_as, tables_damaged, catalog_during, then_during, catalog_told}
+use Rattle.chv_engine.proofs.StandingLemmas.{CATALOG}
 use Rattle.chv_engine.proofs.opening.open_store.Goals as goal
 
 pub returns-in-Err-clause-damaged : goal.returns-in-Err-clause-damaged
@@ -14,60 +16,50 @@ returns-in-Err-clause-during g c tells history settles =
     let S = g.W.Site in
     catalog_during S.moment S.left_since S.state S.said history c.args.site.now c.open_catalog.new.site settles (c.open_catalog.ensures.during tells)
 
-pub returns-in-None-clause-holds : goal.returns-in-None-clause-holds
-returns-in-None-clause-holds g c tells history settles =
+pub returns-in_err-tables-clause-damaged : goal.returns-in_err-tables-clause-damaged
+returns-in_err-tables-clause-damaged g c tells =
     let S = g.W.Site in
-    let opened = c.in-Ok.ensures in
-    holds_empty c.in-Ok.catalog (S.state c.args.site.now) (S.state c.open_catalog.new.site) opened.file (c.open_catalog.ensures.others tells) (opened.holds tells) history settles c.in-None.is
+    let p = err_from_is_err_and c.from_residual.result c.from_residual.ensures.1 in
+    let told = rw (sym p.2) at (c.in_err-tables.ensures.damaged tells) in
+    rw p.1 (tables_damaged c.in-Ok.catalog (S.state c.args.site.now) (S.state c.open_catalog.new.site) (c.open_catalog.ensures.others tells) (c.in-Ok.ensures.holds tells) p.0 told)
 
-pub returns-in-None-clause-opened : goal.returns-in-None-clause-opened
-returns-in-None-clause-opened g c tells =
+pub returns-in_err-tables-clause-during : goal.returns-in_err-tables-clause-during
+returns-in_err-tables-clause-during g c tells history settles =
     let S = g.W.Site in
-    opened_empty c.in-Ok.catalog (S.state c.args.site.now) (S.state c.open_catalog.new.site) (c.open_catalog.ensures.others tells) (c.in-Ok.ensures.holds tells) c.in-None.is
-
-pub returns-in-None-clause-during : goal.returns-in-None-clause-during
-returns-in-None-clause-during g c tells history settles =
-    let S = g.W.Site in
-    catalog_during S.moment S.left_since S.state S.said history c.args.site.now c.open_catalog.new.site settles (c.open_catalog.ensures.during tells)
-
-pub returns-in-Ok-open_table-clause-holds : goal.returns-in-Ok-open_table-clause-holds
-returns-in-Ok-open_table-clause-holds g c tells history settles =
-    let S = g.W.Site in
-    let opened = c.in-Ok.ensures in
     let others = c.open_catalog.ensures.others tells in
-    holds_table c.in-Ok.catalog (S.state c.args.site.now) (S.state c.open_catalog.new.site) opened.file others (opened.holds tells) history settles c.in-Some.name c.in-Some.is
-    (S.state c.open_table.new.site) c.in-Ok-open_table.table (c.open_table.ensures.others tells)
-    (c.in-Ok-open_table.ensures.book tells (history.books 1) (settles_book c.in-Ok.catalog (S.state c.args.site.now) (S.state c.open_catalog.new.site) opened.file others (opened.holds tells) history settles c.in-Some.name c.in-Some.is))
+    let holds = c.in-Ok.ensures.holds tells in
+    let old = S.state c.args.site.now in
+    let mid = S.state c.open_catalog.new.site in
+    then_during S.moment S.left_since S.state S.said history c.args.site.now c.open_catalog.new.site c.open_tables.new.site (c.open_catalog.ensures.said tells)
+    (catalog_during S.moment S.left_since S.state S.said history c.args.site.now c.open_catalog.new.site settles (c.open_catalog.ensures.during tells))
+    (c.in_err-tables.ensures.during tells history (mid_settles c.in-Ok.catalog old mid others holds history settles) (are_tables c.in-Ok.catalog old mid others holds history settles))
 
-pub returns-in-Ok-open_table-clause-opened : goal.returns-in-Ok-open_table-clause-opened
-returns-in-Ok-open_table-clause-opened g c tells =
+pub returns-clause-holds : goal.returns-clause-holds
+returns-clause-holds g c tells history settles =
     let S = g.W.Site in
-    let commits = c.in-Ok-open_table.ensures.commits tells in
-    opens_table c.in-Ok.catalog (S.state c.args.site.now) (S.state c.open_catalog.new.site) (c.open_catalog.ensures.others tells) (c.in-Ok.ensures.holds tells) c.in-Some.name c.in-Some.is
-    (S.state c.open_table.new.site) c.in-Ok-open_table.table c.in-Ok-open_table.ensures.within.0 (c.open_table.ensures.others tells) commits.0 commits.1 commits.2
-
-pub returns-in-Ok-open_table-clause-during : goal.returns-in-Ok-open_table-clause-during
-returns-in-Ok-open_table-clause-during g c tells history settles =
-    let S = g.W.Site in
-    let opened = c.in-Ok.ensures in
     let others = c.open_catalog.ensures.others tells in
-    table_during S.moment S.left_since S.state S.said history c.args.site.now c.open_catalog.new.site c.open_table.new.site
-    (one_table c.in-Ok.catalog (S.state c.args.site.now) (S.state c.open_catalog.new.site) opened.file others (opened.holds tells) history settles c.in-Some.name c.in-Some.is)
-    (mid_settles c.in-Ok.catalog (S.state c.args.site.now) (S.state c.open_catalog.new.site) opened.file others (opened.holds tells) history settles) (c.open_catalog.ensures.said tells)
-    (catalog_during S.moment S.left_since S.state S.said history c.args.site.now c.open_catalog.new.site settles (c.open_catalog.ensures.during tells)) (c.open_table.ensures.during tells)
+    let holds = c.in-Ok.ensures.holds tells in
+    let old = S.state c.args.site.now in
+    let mid = S.state c.open_catalog.new.site in
+    let settled = mid_settles c.in-Ok.catalog old mid others holds history settles in
+    let are = are_tables c.in-Ok.catalog old mid others holds history settles in
+    let opened = c.in_ok-tables.ensures in
+    holds_store c.in-Ok.catalog old mid others holds history settles (S.state c.open_tables.new.site) c.in_ok-tables.tables c.in-Ok.ensures.file (opened.catalog tells CATALOG refl)
+    (opened.settles tells history settled are) (opened.holds tells history settled are)
 
-pub returns-in-Err-open_table-clause-damaged : goal.returns-in-Err-open_table-clause-damaged
-returns-in-Err-open_table-clause-damaged g c tells =
+pub returns-clause-opened : goal.returns-clause-opened
+returns-clause-opened g c tells =
     let S = g.W.Site in
-    rw c.open_fault-in-Err-open_table.ensures (opened_told c.in-Ok.catalog (S.state c.args.site.now) (S.state c.open_catalog.new.site) (c.open_catalog.ensures.others tells) (c.in-Ok.ensures.holds tells) c.in-Some.name c.in-Some.is
-    c.in-Err-open_table.fault (λ damage is. c.in-Err-open_table.ensures.damaged tells damage (ap (λ (why : TableFault). Err why) is)))
+    opens_as c.in-Ok.catalog (S.state c.args.site.now) (S.state c.open_catalog.new.site) (c.open_catalog.ensures.others tells) (c.in-Ok.ensures.holds tells) (S.state c.open_tables.new.site) c.in_ok-tables.tables
+    (c.in_ok-tables.ensures.opened tells)
 
-pub returns-in-Err-open_table-clause-during : goal.returns-in-Err-open_table-clause-during
-returns-in-Err-open_table-clause-during g c tells history settles =
+pub returns-clause-during : goal.returns-clause-during
+returns-clause-during g c tells history settles =
     let S = g.W.Site in
-    let opened = c.in-Ok.ensures in
     let others = c.open_catalog.ensures.others tells in
-    table_during S.moment S.left_since S.state S.said history c.args.site.now c.open_catalog.new.site c.open_table.new.site
-    (one_table c.in-Ok.catalog (S.state c.args.site.now) (S.state c.open_catalog.new.site) opened.file others (opened.holds tells) history settles c.in-Some.name c.in-Some.is)
-    (mid_settles c.in-Ok.catalog (S.state c.args.site.now) (S.state c.open_catalog.new.site) opened.file others (opened.holds tells) history settles) (c.open_catalog.ensures.said tells)
-    (catalog_during S.moment S.left_since S.state S.said history c.args.site.now c.open_catalog.new.site settles (c.open_catalog.ensures.during tells)) (c.open_table.ensures.during tells)
+    let holds = c.in-Ok.ensures.holds tells in
+    let old = S.state c.args.site.now in
+    let mid = S.state c.open_catalog.new.site in
+    then_during S.moment S.left_since S.state S.said history c.args.site.now c.open_catalog.new.site c.open_tables.new.site (c.open_catalog.ensures.said tells)
+    (catalog_during S.moment S.left_since S.state S.said history c.args.site.now c.open_catalog.new.site settles (c.open_catalog.ensures.during tells))
+    (c.in_ok-tables.ensures.during tells history (mid_settles c.in-Ok.catalog old mid others holds history settles) (are_tables c.in-Ok.catalog old mid others holds history settles))

@@ -7,7 +7,7 @@ use Rattle.chv_site.specs.Images.{Image}
 use Rattle.chv_site.specs.During.{During}
 use Rattle.chv_site.proofs.Moments.{started, weakened, goes_on}
 use Rattle.chv_engine.specs.Crashes.{StandsWith, IsLeftBy}
-use Rattle.chv_engine.specs.Damage.{Files, IsOpeningDamaged, first_statement}
+use Rattle.chv_engine.specs.Damage.{Files, IsOpeningDamaged, Shows, first_statement}
 use Rattle.chv_engine.specs.DamageLines.{damage_line}
 use Rattle.chv_engine.specs.Histories.{History}
 use Rattle.chv_engine.specs.Meets.{TellsOrFails}
@@ -18,7 +18,7 @@ use Rattle.chv_engine.specs.Stores.{IsWithin, Holds, IsAt, AnswersAs, EndsAt}
 use Rattle.chv_engine.specs.declared.opening.OpenFault.{OpenFault}
 use Rattle.chv_engine.specs.declared.store.Store.{Store}
 use Rattle.chv_engine.proofs.LeftLemmas.{left_still}
-use Rattle.chv_engine.proofs.MeetsLemmas.{fails_or_tells}
+use Rattle.chv_engine.proofs.MeetsLemmas.{fails_or_tells, shows_opened}
 use Rattle.chv_engine.proofs.OpeningLemmas.{damage_told, opening_line_unique, meets_undamaged, opened_undamaged, settled_undamaged, meets_part}
 use Rattle.chv_engine.proofs.OrderLemmas.{requests_of-pieces}
 use Rattle.chv_engine.proofs.ResultLemmas.{if_ok_with}
@@ -70,6 +70,11 @@ returns-in-Ok-clause-during g c = λ tells history settles.
     (c.answer_all.ensures.during tells (S.said site) (begins history) start)
     (λ image text left. left))
 
+pub returns-in-Ok-clause-damaged : goal.returns-in-Ok-clause-damaged
+returns-in-Ok-clause-damaged g c = λ tells is.
+    let says = c.answer_all.ensures.damaged tells is in
+    record { text = says.text; line = says.line; ends = says.ends; damaged = inr says.damaged }
+
 pub returns-in-Ok-clause-undamaged : goal.returns-in-Ok-clause-undamaged
 returns-in-Ok-clause-undamaged g c = λ tells history settles.
     let S = g.W.Site in
@@ -91,7 +96,10 @@ returns-in-Ok-clause-meets g c = λ tells line damaged.
       | inl opening ↦ absurd (opened_undamaged c.in-Ok.store old new line (c.in-Ok.ensures.opened tells) opening)
       | inr meets ↦
           subst (λ (said : List ℕ). TellsOrFails c.answer_all.result said (S.said now) line) (c.in-Ok.ensures.said tells)
-          (c.answer_all.ensures.meets tells meets.def.name line (ap first_statement same ∙ meets.first) (meets_part c.in-Ok.store old new (requests_of c.args.script.now) line (c.in-Ok.ensures.opened tells) meets))
+          (c.answer_all.ensures.meets tells meets.table meets.def line
+          (subst (λ (requests : List Request). Shows (first_statement requests) c.in-Ok.store.schema.tables meets.table meets.def) (sym same)
+          (shows_opened c.in-Ok.store old new (requests_of c.args.script.now) line (c.in-Ok.ensures.opened tells) meets))
+          (meets_part c.in-Ok.store old new (requests_of c.args.script.now) line (c.in-Ok.ensures.opened tells) meets))
     ]
 
 -- a log is damaged

@@ -1,13 +1,13 @@
 -- A moment is reached from which the requests that are left lead to the end of the whole script.
-use Rattle.std.proofs.Common.{◌≡◌, ◌<◌, ◌≤◌, List, ℕ, Some, length}
+use Rattle.std.proofs.Common.{◌≡◌, ◌<◌, ◌≤◌, List, ℕ, length}
+use Rattle.chv_catalog.specs.declared.table_def.TableDef.{TableDef}
 use Rattle.chv_site.specs.During.{During}
 use Rattle.chv_engine.specs.Crashes.{IsLeftBy, Reaches}
-use Rattle.chv_engine.specs.Damage.{first_statement}
+use Rattle.chv_engine.specs.Damage.{Shows, first_statement}
 use Rattle.chv_engine.specs.Faults.{CountsKeep}
 use Rattle.chv_engine.specs.Meets.{MeetsPart}
 use Rattle.chv_engine.specs.Runs.{Moment, run_events}
 use Rattle.chv_engine.specs.Script.{from_client, left_at, requests_in}
-use Rattle.chv_engine.specs.Forms.{SelectAll}
 use Rattle.chv_engine.specs.Stores.{IsWithin, IsPlaced, IsAt}
 use Rattle.chv_engine.proofs.store.Store.answer_all.Given as goal
 
@@ -22,10 +22,10 @@ invariant-pieces g l = record {
   left : g.W.Site.tells → (before : List ℕ) (m : Moment) → IsAt l.initial.self (g.W.Site.state l.initial.site) (g.W.Site.said l.initial.site) before m
       → During g.W.Site.moment g.W.Site.left_since l.initial.site l.site (IsLeftBy (run_events (requests_in l.script (from_client 0 l.pieces)) m) before m);
   -- damage that the first statement meets is still to come
-  meets : g.W.Site.tells → (name line : List ℕ) → first_statement (requests_in l.script (from_client 0 l.pieces)) ≡ Some (SelectAll name)
-      → MeetsPart l.initial.self (λ f. (g.W.Site.state l.initial.site f).bytes) name line
-      → (first_statement (requests_in l.script (left_at l.client l.place l.pieces)) ≡ Some (SelectAll name))
-      × MeetsPart l.self (λ f. (g.W.Site.state l.site f).bytes) name line × (g.W.Site.said l.site ≡ g.W.Site.said l.initial.site);
+  meets : g.W.Site.tells → (table : ℕ) (def : TableDef) (line : List ℕ) → Shows (first_statement (requests_in l.script (from_client 0 l.pieces))) l.initial.self.schema.tables table def
+      → MeetsPart l.initial.self (λ f. (g.W.Site.state l.initial.site f).bytes) table def line
+      → Shows (first_statement (requests_in l.script (left_at l.client l.place l.pieces))) l.self.schema.tables table def
+      × MeetsPart l.self (λ f. (g.W.Site.state l.site f).bytes) table def line × (g.W.Site.said l.site ≡ g.W.Site.said l.initial.site);
   counts : CountsKeep (g.W.Site.disk_faults l.initial.site) (g.W.Site.disk_faults l.site) (g.W.Site.say_faults l.initial.site) (g.W.Site.say_faults l.site);
 }
 

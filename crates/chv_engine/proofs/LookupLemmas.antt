@@ -1,0 +1,111 @@
+-- Which table a name names, and that what is planned is for one that stands.
+use Rattle.std.proofs.Common.{◌≡◌, ℕ, zero, suc, ◌+◌, ◌-◌, ◌<◌, ◌≤◌, List, [], ◌∷◌, length, Bool, true, false, Option, None, Some, Ok, Err, IfOk, slice_get, option_map, refl, subst, arith}
+use Rattle.std.specs.Prelude.{Result, nat_lt}
+use Rattle.std.specs.List.{list_any}
+use Rattle.chv_ast.specs.declared.expr.Literal.{Literal}
+use Rattle.chv_ast.specs.declared.refusal.Refusal.{Refusal}
+use Rattle.chv_ast.specs.declared.refusal.Refusal.TheVariants.{UnknownTable, UnknownColumn, NameTaken, TypeMismatch, LimitPassed}
+use Rattle.chv_ast.specs.declared.statement.Statement.{Statement}
+use Rattle.chv_ast.specs.declared.statement.Statement.TheVariants as statement
+use Rattle.chv_catalog.specs.Schemas.{names_of, place_of, columns_of, kinds_of}
+use Rattle.chv_catalog.specs.declared.table_def.TableDef.{TableDef}
+use Rattle.chv_catalog.proofs.SchemaLemmas.{place_of-within, length-names_of}
+use Rattle.chv_define.specs.Definitions.{refuse_if, and_then, has_repeat, is_unknown, is_state, places_of}
+use Rattle.chv_part.specs.Books.{Entry, entry_of, MAX_ROWS}
+use Rattle.chv_plan.specs.Plans.{Delivery, filled_names, kinds_at, rows_for, planned, planned_for, table_of}
+
+-- the table of a name, by its number
+pub record IsNamed (tables : List TableDef) (name : List ℕ) (number : ℕ) : Type 0 where
+  pub def : TableDef
+  pub stands : slice_get tables (number - 1) ≡ Some def
+  pub is : table_of tables name ≡ Ok (number, def)
+  pub first : 1 ≤ number
+  pub last : number ≤ length tables
+
+table_at : (tables : List TableDef) (place : ℕ) → place < length tables → (def : TableDef) × (slice_get tables place ≡ Some def)
+table_at [] place below = absurd (omega (arith, below))
+table_at (def ∷ defs) zero below = (def, refl)
+table_at (def ∷ defs) (suc place) below = table_at defs place (omega arith)
+
+found_at : (tables : List TableDef) (name : List ℕ) (place : ℕ) (def : TableDef) → place_of name (names_of tables) ≡ Some place → slice_get tables place ≡ Some def → table_of tables name ≡ Ok (place + 1, def)
+found_at tables name place def found stands = rw (found, stands) refl
+
+named_at : (tables : List TableDef) (name : List ℕ) (place : ℕ) → place_of name (names_of tables) ≡ Some place → IsNamed tables name (place + 1)
+named_at tables name place found =
+    let below : place < length tables = omega (arith, place_of-within name (names_of tables) place found, length-names_of tables) in
+    let at = table_at tables place below in
+    let same : place + 1 - 1 ≡ place = omega arith in
+    record {
+      def = at.0;
+      stands = rw same at.1;
+      is = found_at tables name place at.0 found at.1;
+      first = omega arith;
+      last = omega (arith, below);
+    }
+
+named_by : (tables : List TableDef) (name : List ℕ) (number : ℕ) (place : Option ℕ) → place_of name (names_of tables) ≡ place → option_map (λ p. p + 1) place ≡ Some number → IsNamed tables name number
+named_by tables name number None found is = absurd (cc is)
+named_by tables name number (Some place) found is = let same : place + 1 ≡ number = cc in subst (IsNamed tables name) same (named_at tables name place found)
+
+-- a name that is found is that of a table
+pub table_of-known : (tables : List TableDef) (name : List ℕ) (number : ℕ) → option_map (λ place. place + 1) (place_of name (names_of tables)) ≡ Some number → IsNamed tables name number
+table_of-known tables name number is = named_by tables name number (place_of name (names_of tables)) refl is
+
+unnamed_by : (tables : List TableDef) (name : List ℕ) (place : Option ℕ) → place_of name (names_of tables) ≡ place → option_map (λ p. p + 1) place ≡ None → table_of tables name ≡ Err UnknownTable
+unnamed_by tables name None found is = rw found refl
+unnamed_by tables name (Some place) found is = absurd (cc is)
+
+-- and one that is not, is of none
+pub table_of-none : (tables : List TableDef) (name : List ℕ) → option_map (λ place. place + 1) (place_of name (names_of tables)) ≡ None → table_of tables name ≡ Err UnknownTable
+table_of-none tables name is = unnamed_by tables name (place_of name (names_of tables)) refl is
+
+-- what holds of each step holds of the whole
+if_ok-and_then : {A B : Type 0} (r : Result A Refusal) (rest : A → Result B Refusal) (P : A → Type 0) (Q : B → Type 0) → IfOk r P → ((a : A) → P a → IfOk (rest a) Q) → IfOk (and_then r rest) Q
+if_ok-and_then (Ok a) rest P Q holds then = then a holds
+if_ok-and_then (Err refusal) rest P Q holds then = tt
+
+-- what passes all checks is delivered to the table
+checked-table : {A : Type 0} (unknown twice state many : Bool) (rows : Result A Refusal) (entry : A → Entry) (table : ℕ)
+    → IfOk {T = Delivery} (refuse_if unknown UnknownColumn (refuse_if twice NameTaken (refuse_if state TypeMismatch (refuse_if many LimitPassed (and_then rows (λ block. Ok (record { table = table; entry = entry block }))))))) (λ d. d.table ≡ table)
+checked-table true twice state many rows entry table = tt
+checked-table false true state many rows entry table = tt
+checked-table false false true many rows entry table = tt
+checked-table false false false true rows entry table = tt
+checked-table false false false false (Ok block) entry table = refl
+checked-table false false false false (Err refusal) entry table = tt
+
+planned_for-table : (table : ℕ) (def : TableDef) (listed : Option (List (List ℕ))) (rows : List (List Literal)) → IfOk (planned_for table def listed rows) (λ d. d.table ≡ table)
+planned_for-table table def listed rows =
+    let names = filled_names (columns_of def) listed in
+    let places = places_of (columns_of def) names in
+    checked-table (list_any (is_unknown (columns_of def)) names) (has_repeat names) (list_any is_state (kinds_at (kinds_of def) places)) (nat_lt MAX_ROWS (length rows)) (rows_for (kinds_of def) places rows)
+    (entry_of (kinds_of def) def.key) table
+
+-- the number of a table that is found is one of the tables
+table_of-within : (tables : List TableDef) (name : List ℕ) → IfOk (table_of tables name) (λ found. (1 ≤ found.0) × (found.0 ≤ length tables))
+table_of-within tables name = by (place_of name (names_of tables)) refl
+  where
+    by : (place : Option ℕ) → place_of name (names_of tables) ≡ place → IfOk (table_of tables name) (λ found. (1 ≤ found.0) × (found.0 ≤ length tables))
+    by None found = rw found tt
+    by (Some place) found = let named = named_at tables name place found in rw named.is (named.first, named.last)
+
+-- a delivery that is planned has a table
+pub planned-within : (tables : List TableDef) (asked : Statement) → IfOk (planned tables asked) (λ d. (1 ≤ d.table) × (d.table ≤ length tables))
+unfolding planned
+planned-within tables (statement.Insert table columns settings rows) =
+    if_ok-and_then (table_of tables table) _ (λ found. (1 ≤ found.0) × (found.0 ≤ length tables)) (λ (d : Delivery). (1 ≤ d.table) × (d.table ≤ length tables)) (table_of-within tables table)
+    (λ found known. weaker (planned_for found.0 found.1 columns rows) found.0 known (planned_for-table found.0 found.1 columns rows))
+  where
+    weaker : (r : Result Delivery Refusal) (number : ℕ) → (1 ≤ number) × (number ≤ length tables) → IfOk r (λ d. d.table ≡ number) → IfOk r (λ d. (1 ≤ d.table) × (d.table ≤ length tables))
+    weaker (Ok d) number known same = (omega (arith, known.0, same), omega (arith, known.1, same))
+    weaker (Err refusal) number known same = tt
+planned-within tables (statement.CreateTable name columns engine key window) = tt
+planned-within tables (statement.CreateView name target query) = tt
+planned-within tables (statement.Query query) = tt
+planned-within tables (statement.ShowParts table) = tt
+planned-within tables (statement.Optimize table) = tt
+planned-within tables statement.FlushQueue = tt
+
+-- one table is found
+pub one_found : (p q : ℕ × TableDef) → ◌≡◌ {A = Result (ℕ × TableDef) Refusal} (Ok p) (Ok q) → p ≡ q
+one_found p q same = cc
