@@ -1,4 +1,4 @@
--- The last ids of a table: docs/FORMATS.md, "Ids".
+-- The last ids of a table.
 use Rattle.std.specs.Prelude.{ℕ, ◌-◌, List, length, drop}
 use Rattle.chv_sip.specs.declared.block_id.BlockId.{BlockId}
 
