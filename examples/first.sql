@@ -1,4 +1,4 @@
-CREATE TABLE t (a UInt64) ENGINE = MergeTree ORDER BY a;
-INSERT INTO t VALUES (2);
-INSERT INTO t VALUES (1);
-SELECT * FROM t;
+CREATE TABLE visits (day UInt32, page String, new Bool) ENGINE = MergeTree ORDER BY (page, day);
+INSERT INTO visits VALUES (2, 'home', TRUE), (1, 'it''s here', FALSE);
+INSERT INTO visits (page, day) VALUES ('home', 1);
+SELECT * FROM visits;
