@@ -1,0 +1,24 @@
+-- The payloads of a table's log: docs/FORMATS.md, "Commits".
+use Rattle.std.specs.Prelude.{ℕ, ◌<◌, ◌≤◌, ◌^◌, List, [], ◌∷◌, ◌++◌, length}
+use Rattle.std.specs.Int.{w32, w64, to_le_bytes}
+use Rattle.std.specs.List.{flat_map}
+use Rattle.chv_sip.specs.declared.block_id.BlockId.{BlockId}
+use Rattle.chv_commit.specs.declared.commit.Commit.{Commit}
+use Rattle.chv_commit.specs.declared.commit.Commit.TheVariants.{Add, Merge}
+
+-- an id: its two words
+abbrev pub id_spelling : BlockId → List ℕ
+id_spelling id = to_le_bytes w64 id.first ++ to_le_bytes w64 id.second
+
+-- new entries with a part of their own: 1, the part, its rows, the number of entries, and their ids; or parts that become
+-- one: 2, the entries from the first to the last, the part, its level and its rows
+abbrev pub commit_spelling : Commit → List ℕ
+commit_spelling (Add part rows ids) =
+    (1 ∷ []) ++ to_le_bytes w64 part ++ to_le_bytes w64 rows ++ to_le_bytes w32 (length ids) ++ flat_map id_spelling ids
+commit_spelling (Merge lo hi part level rows) =
+    (2 ∷ []) ++ to_le_bytes w64 lo ++ to_le_bytes w64 hi ++ to_le_bytes w64 part ++ to_le_bytes w64 level ++ to_le_bytes w64 rows
+
+-- a commit adds one entry at least, and no more than a number of 32 bits counts
+abbrev pub IsCommit : Commit → Type 0
+IsCommit (Add part rows ids) = (1 ≤ length ids) × (length ids < 2 ^ 32)
+IsCommit (Merge lo hi part level rows) = Unit {0}

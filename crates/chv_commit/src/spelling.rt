@@ -1,0 +1,87 @@
+// Commits as payloads.
+ghost use Rattle.std.specs.Prelude.{◌≡◌, ◌++◌, ◌<◌, ◌≤◌, ◌^◌, length, IfOk, OnOk};
+ghost use Rattle.std.specs.List.{flat_map};
+ghost use Rattle.chv_commit.specs.Commits.{commit_spelling, id_spelling, IsCommit};
+ghost use Rattle.chv_commit.specs.declared.commit.Commit.TheVariants.{Add, Merge};
+
+use crate::Commit;
+use chv_ast::Seq;
+use chv_sip::BlockId;
+use chv_types::Bytes;
+use std::alloc::{AllocError, Global};
+
+// What the payload of new entries begins with.
+const NEW_ENTRIES: u8 = 1;
+
+// What the payload of parts that become one begins with.
+const ONE_PART: u8 = 2;
+
+/// The payload of a commit.
+pub fn spell(alloc: Global, commit: &Commit) -> Result<Bytes, AllocError>
+    requires { IsCommit commit.now }
+    ensures { IfOk result (λ payload. payload ≡ commit_spelling commit.now) }
+{
+    match commit {
+        Commit::Add { part, rows, ids } => spell_add(alloc, *part, *rows, ids.as_slice()),
+        Commit::Merge {
+            lo,
+            hi,
+            part,
+            level,
+            rows,
+        } => spell_merge(alloc, *lo, *hi, *part, *level, *rows),
+    }
+}
+
+// The payload of new entries.
+fn spell_add(alloc: Global, part: u64, rows: u64, ids: &[BlockId]) -> Result<Bytes, AllocError>
+    requires { length ids.now < 2 ^ 32 }
+    ensures { IfOk result (λ payload. payload ≡ commit_spelling (Add part rows ids.now)) }
+{
+    let mut bytes = Vec::with_capacity(alloc, 21 + 16 * ids.len())?;
+    bytes.push(NEW_ENTRIES)?;
+    bytes.extend_from_slice(&part.to_le_bytes())?;
+    bytes.extend_from_slice(&rows.to_le_bytes())?;
+    bytes.extend_from_slice(&(ids.len() as u32).to_le_bytes())?;
+    put_ids(&mut bytes, ids)?;
+    Ok(Seq::of_items(bytes))
+}
+
+// Puts ids behind bytes.
+fn put_ids(bytes: &mut Vec<u8>, ids: &[BlockId]) -> Result<(), AllocError>
+    ensures { OnOk result (bytes.new.items ≡ bytes.old.items ++ flat_map id_spelling ids.now) }
+{
+    for id in ids {
+        put_id(bytes, id)?;
+    }
+    Ok(())
+}
+
+// Puts an id behind bytes.
+fn put_id(bytes: &mut Vec<u8>, id: &BlockId) -> Result<(), AllocError>
+    ensures { OnOk result (bytes.new.items ≡ bytes.old.items ++ id_spelling id.now) }
+{
+    bytes.extend_from_slice(&id.first.to_le_bytes())?;
+    bytes.extend_from_slice(&id.second.to_le_bytes())
+}
+
+// The payload of parts that become one.
+fn spell_merge(
+    alloc: Global,
+    lo: u64,
+    hi: u64,
+    part: u64,
+    level: u64,
+    rows: u64,
+) -> Result<Bytes, AllocError>
+    ensures { IfOk result (λ payload. payload ≡ commit_spelling (Merge lo hi part level rows)) }
+{
+    let mut bytes = Vec::with_capacity(alloc, 41)?;
+    bytes.push(ONE_PART)?;
+    bytes.extend_from_slice(&lo.to_le_bytes())?;
+    bytes.extend_from_slice(&hi.to_le_bytes())?;
+    bytes.extend_from_slice(&part.to_le_bytes())?;
+    bytes.extend_from_slice(&level.to_le_bytes())?;
+    bytes.extend_from_slice(&rows.to_le_bytes())?;
+    Ok(Seq::of_items(bytes))
+}
