@@ -1,1 +1,2 @@
+pub mod LastIds
 pub mod Words

@@ -1,5 +1,6 @@
 -- The ids of blocks, which are hashes of what names them: docs/FORMATS.md, "Ids".
-use Rattle.std.specs.Prelude.{ℕ, List, [], ◌∷◌, drop}
+use Rattle.std.specs.Prelude.{ℕ, Bool, ◌==◌, ◌&&◌, ◌-◌, List, [], ◌∷◌, ◌++◌, length, drop}
+use Rattle.std.specs.Int.{w32, to_le_bytes}
 use Rattle.byteorder.specs.Endian.{little_number}
 use Rattle.chv_sip.specs.SipHash.{sip_hash}
 use Rattle.chv_sip.specs.declared.block_id.BlockId.{BlockId}
@@ -23,3 +24,25 @@ id_of key = record { first = keyed_hash first_key key; second = keyed_hash secon
 -- what names a block by its content: 1, and the block's bytes
 abbrev pub content_key : List ℕ → List ℕ
 content_key block = 1 ∷ block
+
+-- what names a block by a token: 2, the token behind its length, and the number of the block in its insert, from 0
+abbrev pub token_key : List ℕ → ℕ → List ℕ
+token_key token number = (2 ∷ []) ++ to_le_bytes w32 (length token) ++ token ++ to_le_bytes w32 number
+
+-- what names a block of an insert: its bytes, or a token and the block's number
+pub data SourceKey : Type 0 where
+  Content : List ℕ → SourceKey
+  Token : List ℕ → ℕ → SourceKey
+
+-- the id of a block by what names it
+abbrev pub source_id : SourceKey → BlockId
+source_id (Content block) = id_of (content_key block)
+source_id (Token token number) = id_of (token_key token number)
+
+-- two ids are the same
+abbrev pub id_eq : BlockId → BlockId → Bool
+id_eq a b = (a.first == b.first) && (a.second == b.second)
+
+-- the last of a list of ids, so many at most
+abbrev pub last_ids : ℕ → List BlockId → List BlockId
+last_ids size ids = drop (length ids - size) ids

@@ -1,6 +1,6 @@
 // The ids of blocks.
-ghost use Rattle.std.specs.Prelude.{◌≡◌};
-ghost use Rattle.chv_sip.specs.BlockIds.{id_of, content_key, keyed_hash, first_key};
+ghost use Rattle.std.specs.Prelude.{◌≡◌, ◌<◌, ◌^◌, length};
+ghost use Rattle.chv_sip.specs.BlockIds.{id_of, content_key, token_key, keyed_hash, first_key};
 ghost use Rattle.chv_sip.specs.SipHash.{sip_hash};
 
 use crate::sip::{Sip, sip24};
@@ -34,6 +34,9 @@ const SECOND_KEY: Key = Key {
 // The first byte of a key that is a block's content.
 const CONTENT: u8 = 1;
 
+// The first byte of a key that is a token.
+const TOKEN: u8 = 2;
+
 /// The id of a block that is named by its content, from the block's bytes in order of arrival.
 pub fn id_of_content(block: &[u8]) -> BlockId
     ensures { result ≡ id_of (content_key block.now) }
@@ -44,12 +47,37 @@ pub fn id_of_content(block: &[u8]) -> BlockId
     }
 }
 
+// The hash under one key of what names a block by its content.
 fn content_hash(key: Key, block: &[u8]) -> u64
     ensures { result ≡ sip_hash key.k0 key.k1 (content_key block.now) }
 {
     let mut sip = Sip::new(key.k0, key.k1);
     sip.feed(&[CONTENT]);
     sip.feed(block);
+    sip.finish()
+}
+
+/// The id of a block that is named by a token of its insert, and by the block's number in it, from 0.
+pub fn id_of_token(token: &[u8], number: u32) -> BlockId
+    requires short { length token.now < 2 ^ 32 }
+    ensures { result ≡ id_of (token_key token.now number) }
+{
+    BlockId {
+        first: token_hash(FIRST_KEY, token, number),
+        second: token_hash(SECOND_KEY, token, number),
+    }
+}
+
+// The hash under one key of what names a block by a token.
+fn token_hash(key: Key, token: &[u8], number: u32) -> u64
+    requires short { length token.now < 2 ^ 32 }
+    ensures { result ≡ sip_hash key.k0 key.k1 (token_key token.now number) }
+{
+    let mut sip = Sip::new(key.k0, key.k1);
+    sip.feed(&[TOKEN]);
+    sip.feed(&(token.len() as u32).to_le_bytes());
+    sip.feed(token);
+    sip.feed(&number.to_le_bytes());
     sip.finish()
 }
 

@@ -2,10 +2,12 @@
 #![tactic(auto)]
 
 mod block_id;
+mod laws;
 mod sip;
 mod state;
 #[cfg(test)]
 mod tests;
 
-pub use block_id::{BlockId, body_hash, id_of_content};
-pub use sip::sip24;
+pub use block_id::{BlockId, body_hash, id_of_content, id_of_token};
+pub use laws::law_last_ids;
+pub use sip::{Sip, sip24};

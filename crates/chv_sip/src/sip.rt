@@ -47,8 +47,8 @@ impl Sip {
     }
 
     /// The hash of all that was fed.
-    pub fn finish(self) -> u64
-        ensures { (k0 k1 : ℕ) (fed : List ℕ) → IsFed k0 k1 fed self → result ≡ sip_hash k0 k1 fed }
+    pub fn finish(&self) -> u64
+        ensures { (k0 k1 : ℕ) (fed : List ℕ) → IsFed k0 k1 fed self.now → result ≡ sip_hash k0 k1 fed }
     {
         let held = (self.count % 8) as usize;
         let mut last = [0, 0, 0, 0, 0, 0, 0, self.count];

@@ -1,5 +1,5 @@
 use crate::sip::Sip;
-use crate::{BlockId, body_hash, id_of_content, sip24};
+use crate::{BlockId, body_hash, id_of_content, id_of_token, sip24};
 
 const K0: u64 = 0x0706_0504_0302_0100;
 
@@ -54,4 +54,32 @@ fn a_content_key_begins_with_1(rt: HostRuntime) {
         second: 0x7dc1_3e8b_5b61_01b7,
     };
     assert_eq!(rt; id_of_content(&block), id);
+}
+
+// What names the first block under the token 'x': 2, the length, the token, and the number 0.
+const TOKEN_KEY: [u8; 10] = [2, 1, 0, 0, 0, 0x78, 0, 0, 0, 0];
+
+#[test]
+fn a_token_key_has_the_length_and_the_number(rt: HostRuntime) {
+    for (number, first, second) in [
+        (0, 0xc645_00ab_a6cd_d586, 0x9de9_c83b_97cc_43b8),
+        (1, 0xe10d_6e27_0be5_6f06, 0x6504_e919_2ac4_7d24),
+    ] {
+        assert_eq!(rt;
+            id_of_token(b"x", number),
+            BlockId { first, second },
+            "the number {number}"
+        );
+    }
+    assert_eq!(rt; sip24(K0, K1, &TOKEN_KEY), 0xc645_00ab_a6cd_d586);
+}
+
+#[test]
+fn pieces_of_a_token_key_hash_as_the_whole(rt: HostRuntime) {
+    for cut in 0..TOKEN_KEY.len() + 1 {
+        let mut sip = Sip::new(K0, K1);
+        sip.feed(&TOKEN_KEY[..cut]);
+        sip.feed(&TOKEN_KEY[cut..]);
+        assert_eq!(rt; sip.finish(), 0xc645_00ab_a6cd_d586, "cut at {cut}");
+    }
 }

@@ -1,7 +1,7 @@
 // The last ids.
 ghost use Rattle.std.specs.Prelude.{◌≡◌, ◌++◌, ◌∷◌, ◌↔◌, [], IfOk, IsTrue};
 ghost use Rattle.std.specs.List.{Contains};
-ghost use Rattle.chv_window.specs.Windows.{last_ids};
+ghost use Rattle.chv_sip.specs.BlockIds.{last_ids};
 
 use chv_sip::BlockId;
 use circular_buffer::HeapCircularBuffer;

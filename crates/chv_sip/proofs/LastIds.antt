@@ -1,8 +1,8 @@
 -- The last of a list are the last of what was kept of it.
-use Rattle.std.proofs.Common.{◌≡◌, ℕ, ◌+◌, ◌-◌, ◌≤◌, List, ◌++◌, length, drop, refl, sym, ap, ◌∙◌, arith}
+use Rattle.std.proofs.Common.{◌≡◌, ℕ, ◌+◌, ◌-◌, List, ◌++◌, length, drop, sym, ap, ◌∙◌, arith}
 use Rattle.std.proofs.lemmas.List.{drop-append-le, length-drop, length-append, drop-drop}
 use Rattle.chv_sip.specs.declared.block_id.BlockId.{BlockId}
-use Rattle.chv_window.specs.Windows.{last_ids}
+use Rattle.chv_sip.specs.BlockIds.{last_ids}
 
 pub last_ids-last_ids : (size : ℕ) (older newer : List BlockId) → last_ids size (last_ids size older ++ newer) ≡ last_ids size (older ++ newer)
 last_ids-last_ids size older newer =

@@ -1,7 +1,7 @@
-// The law of windows.
+// The law of the last ids.
 ghost use Rattle.std.specs.Prelude.{◌≡◌, ◌++◌, List, ℕ};
 ghost use Rattle.chv_sip.specs.declared.block_id.BlockId.{BlockId};
-ghost use Rattle.chv_window.specs.Windows.{last_ids};
+ghost use Rattle.chv_sip.specs.BlockIds.{last_ids};
 
 /// What is kept goes by what was kept before: older ids than the last never count again.
 pub fn law_last_ids()
