@@ -1,3 +1,5 @@
 pub mod BlockLemmas
+pub mod JoinedLemmas
 pub mod LawLemmas
+pub mod PieceLemmas
 pub mod ValueLemmas

@@ -1,8 +1,10 @@
-// Values and blocks as they are written out by hand, and values as they are read back, whole and off the grammar.
+// Values and blocks as they are written out by hand, values as they are read back, whole and off the grammar, and the blocks
+// of inserts.
 ghost use Rattle.std.specs.Prelude.{◌≡◌, ◌∷◌, [], IfOk};
 ghost use Rattle.chv_types.specs.declared.value.Value.TheVariants.{Whole};
+ghost use Rattle.chv_block.specs.Spellings.{IsOfScalar};
 
-use crate::{block_bytes, read_value, spell_value};
+use crate::{Sizes, Squasher, block_bytes, read_value, row_size, spell_value};
 use chv_ast::Seq;
 use chv_types::{Block, Bytes, Kind, Kinds, Row, Scalar, Value, compare};
 use std::alloc::{AllocError, Global};
@@ -161,5 +163,113 @@ fn each_kind_has_its_code(rt: HostRuntime) -> Result<(), Fail> {
             [1, 0, 0, 0, code, 0, 0, 0, 0, 0, 0, 0, 0].as_slice()
         );
     }
+    Ok(())
+}
+
+// How large a row of this value alone is.
+fn size_of(alloc: Global, scalar: Scalar, value: Value) -> Result<u64, AllocError>
+    requires { IsOfScalar scalar value }
+{
+    let mut row: Row = Seq::new(alloc);
+    row.push(value)?;
+    Ok(row_size(&[Kind::Plain(scalar)], &row))
+}
+
+#[test]
+fn a_row_is_as_large_as_its_values(rt: HostRuntime) -> Result<(), Fail> {
+    let alloc = rt.alloc();
+    assert_eq!(rt; size_of(alloc, Scalar::UInt8, Value::Whole(255))?, 1);
+    assert_eq!(rt; size_of(alloc, Scalar::UInt16, Value::Whole(258))?, 2);
+    assert_eq!(rt; size_of(alloc, Scalar::UInt32, Value::Whole(1))?, 4);
+    assert_eq!(rt; size_of(alloc, Scalar::UInt64, Value::Whole(20))?, 8);
+    assert_eq!(rt; size_of(alloc, Scalar::Int8, Value::Whole(-1))?, 1);
+    assert_eq!(rt; size_of(alloc, Scalar::Int16, Value::Whole(-2))?, 2);
+    assert_eq!(rt; size_of(alloc, Scalar::Int32, Value::Whole(0))?, 4);
+    assert_eq!(rt; size_of(alloc, Scalar::Int64, Value::Whole(-1))?, 8);
+    assert_eq!(rt; size_of(alloc, Scalar::Bool, Value::Truth(true))?, 1);
+    let empty = Value::Text(Seq::new(alloc));
+    assert_eq!(rt; size_of(alloc, Scalar::Text, empty)?, 4);
+    let mut name: Bytes = Seq::new(alloc);
+    name.push(b'v')?;
+    name.push(b'1')?;
+    let mut row: Row = Seq::new(alloc);
+    row.push(Value::Whole(7))?;
+    row.push(Value::Text(name))?;
+    let kinds = [Kind::Plain(Scalar::UInt64), Kind::Plain(Scalar::Text)];
+    assert_eq!(rt; row_size(&kinds, &row), 14);
+    Ok(())
+}
+
+// Puts a block behind the others, if there is one.
+fn keep(blocks: &mut Vec<Block>, block: Option<Block>) -> Result<(), AllocError> {
+    if let Some(block) = block {
+        blocks.push(block)?;
+    }
+    Ok(())
+}
+
+// The blocks of so many rows of one number of 8 bytes each, counted up from 0. A piece has to have rows.
+fn squashed(alloc: Global, sizes: Sizes, rows: u64) -> Result<Vec<Block>, AllocError> {
+    let mut blocks = Vec::new(alloc);
+    if sizes.max_rows == 0 {
+        return Ok(blocks);
+    }
+    let mut squasher = Squasher::new(alloc, sizes);
+    for n in 0..rows {
+        let mut row: Row = Seq::new(alloc);
+        row.push(Value::Whole(i128::from(n)))?;
+        let block = squasher.feed(alloc, row, 8)?;
+        keep(&mut blocks, block)?;
+    }
+    keep(&mut blocks, squasher.finish())?;
+    Ok(blocks)
+}
+
+fn sizes(max_rows: u64, min_rows: u64, min_bytes: u64) -> Sizes {
+    Sizes {
+        max_rows,
+        min_rows,
+        min_bytes,
+    }
+}
+
+// The settings, the number of rows of 8 bytes, and the numbers of rows of the blocks.
+#[test]
+fn rows_become_blocks(rt: HostRuntime) -> Result<(), Fail> {
+    let cases: [(Sizes, u64, &[usize]); 11] = [
+        (sizes(2, 3, 0), 7, &[4, 3]),
+        (sizes(65536, 65536, 16777216), 7, &[7]),
+        (sizes(1, 0, 0), 4, &[1, 1, 1, 1]),
+        (sizes(3, 0, 0), 7, &[3, 3, 1]),
+        (sizes(3, 0, 0), 6, &[3, 3]),
+        (sizes(1, 0, 16), 5, &[2, 2, 1]),
+        (sizes(1, 5, 16), 6, &[2, 2, 2]),
+        (sizes(1, 3, 1000), 7, &[3, 3, 1]),
+        (sizes(2, 5, 0), 13, &[6, 6, 1]),
+        (sizes(2, 0, 1), 5, &[2, 2, 1]),
+        (sizes(1, 1, 1), 0, &[]),
+    ];
+    for (sizes, rows, wanted) in cases {
+        let mut lengths = Vec::new(rt.alloc());
+        for block in &squashed(rt.alloc(), sizes, rows)? {
+            lengths.push(block.len())?;
+        }
+        assert_eq!(rt; lengths.as_slice(), wanted, "{sizes:?} at {rows} rows");
+    }
+    Ok(())
+}
+
+// Each row stands in one block, in the order of arrival.
+#[test]
+fn blocks_keep_the_order_of_rows(rt: HostRuntime) -> Result<(), Fail> {
+    let mut numbers = Vec::new(rt.alloc());
+    for block in &squashed(rt.alloc(), sizes(2, 3, 0), 7)? {
+        for row in block.as_slice() {
+            if let Some(Value::Whole(n)) = row.get(0) {
+                numbers.push(*n)?;
+            }
+        }
+    }
+    assert_eq!(rt; numbers.as_slice(), [0, 1, 2, 3, 4, 5, 6].as_slice());
     Ok(())
 }
