@@ -1,7 +1,7 @@
 -- The payloads of a table's log: docs/FORMATS.md, "Commits".
 use Rattle.std.specs.Prelude.{ℕ, ◌<◌, ◌≤◌, ◌^◌, List, [], ◌∷◌, ◌++◌, length}
 use Rattle.std.specs.Int.{w32, w64, to_le_bytes}
-use Rattle.std.specs.List.{flat_map}
+use Rattle.std.specs.List.{All, flat_map}
 use Rattle.chv_sip.specs.declared.block_id.BlockId.{BlockId}
 use Rattle.chv_commit.specs.declared.commit.Commit.{Commit}
 use Rattle.chv_commit.specs.declared.commit.Commit.TheVariants.{Add, Merge}
@@ -18,7 +18,11 @@ commit_spelling (Add part rows ids) =
 commit_spelling (Merge lo hi part level rows) =
     (2 ∷ []) ++ to_le_bytes w64 lo ++ to_le_bytes w64 hi ++ to_le_bytes w64 part ++ to_le_bytes w64 level ++ to_le_bytes w64 rows
 
--- a commit adds one entry at least, and no more than a number of 32 bits counts
+-- the words of an id are numbers of 64 bits
+abbrev pub AreWords : BlockId → Type 0
+AreWords id = (id.first < 2 ^ 64) × (id.second < 2 ^ 64)
+
+-- a commit adds one entry at least, and no more than a number of 32 bits counts; its other numbers have 64 bits
 abbrev pub IsCommit : Commit → Type 0
-IsCommit (Add part rows ids) = (1 ≤ length ids) × (length ids < 2 ^ 32)
-IsCommit (Merge lo hi part level rows) = Unit {0}
+IsCommit (Add part rows ids) = (part < 2 ^ 64) × (rows < 2 ^ 64) × (1 ≤ length ids) × (length ids < 2 ^ 32) × All AreWords ids
+IsCommit (Merge lo hi part level rows) = (lo < 2 ^ 64) × (hi < 2 ^ 64) × (part < 2 ^ 64) × (level < 2 ^ 64) × (rows < 2 ^ 64)

@@ -1,13 +1,20 @@
-//! Commits: what one frame of a table's log says.
+//! Commits: what one frame of a table's log says, and what they say together.
 #![tactic(auto)]
 
 mod commit;
+mod laws;
+mod layout;
+mod part_row;
 mod reading;
+mod replay;
 mod spelling;
 
 pub use commit::{Commit, Ids};
+pub use laws::{law_commit_reads_back, law_log_is_short, law_replay_is_sound};
+pub use part_row::PartRow;
 pub use reading::read_commit;
-pub use spelling::spell;
+pub use replay::{MAX_ENTRIES, Replay};
+pub use spelling::{frame_of_one, spell};
 
 #[cfg(test)]
 mod tests;

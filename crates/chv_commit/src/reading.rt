@@ -1,9 +1,9 @@
 // Payloads as commits.
 ghost use Rattle.std.specs.Prelude.{◌≡◌, ◌≢◌, ◌++◌, ◌+◌, ◌*◌, ◌<◌, ◌≤◌, ◌^◌, ℕ, List, length, IfOk, IfSome, IsNone, IsTrue, ◌↔◌, ◌∷◌};
 ghost use Rattle.std.specs.Int.{w32, w64, to_le_bytes};
-ghost use Rattle.std.specs.List.{flat_map};
+ghost use Rattle.std.specs.List.{All, flat_map};
 ghost use Rattle.chv_sip.specs.declared.block_id.BlockId.{BlockId as Id};
-ghost use Rattle.chv_commit.specs.Commits.{commit_spelling, id_spelling, IsCommit};
+ghost use Rattle.chv_commit.specs.Commits.{commit_spelling, id_spelling, AreWords, IsCommit};
 ghost use Rattle.chv_commit.specs.declared.commit.Commit.{Commit as Seen};
 ghost use Rattle.chv_commit.specs.declared.commit.Commit.TheVariants.{Add, Merge};
 
@@ -57,6 +57,7 @@ fn read_ids(alloc: Global, bytes: &[u8], count: usize) -> Result<Ids, AllocError
     requires { length bytes.now ≡ 16 * count }
     ensures count { IfOk result (λ ids. length ids ≡ count) }
     ensures ids { IfOk result (λ ids. bytes.now ≡ flat_map id_spelling ids) }
+    ensures words { IfOk result (λ ids. All AreWords ids) }
 {
     let mut ids = Vec::with_capacity(alloc, count)?;
     let mut rest = bytes;

@@ -1,5 +1,6 @@
 // Commits as payloads.
-ghost use Rattle.std.specs.Prelude.{◌≡◌, ◌++◌, ◌<◌, ◌≤◌, ◌^◌, length, IfOk, OnOk};
+ghost use Rattle.std.specs.Prelude.{◌≡◌, ◌++◌, ◌∷◌, [], ◌<◌, ◌≤◌, ◌^◌, length, IfOk, OnOk};
+ghost use Rattle.std.specs.Int.{w32, to_le_bytes};
 ghost use Rattle.std.specs.List.{flat_map};
 ghost use Rattle.chv_commit.specs.Commits.{commit_spelling, id_spelling, IsCommit};
 ghost use Rattle.chv_commit.specs.declared.commit.Commit.TheVariants.{Add, Merge};
@@ -7,7 +8,6 @@ ghost use Rattle.chv_commit.specs.declared.commit.Commit.TheVariants.{Add, Merge
 use crate::Commit;
 use chv_ast::Seq;
 use chv_sip::BlockId;
-use chv_types::Bytes;
 use std::alloc::{AllocError, Global};
 
 // What the payload of new entries begins with.
@@ -17,7 +17,7 @@ const NEW_ENTRIES: u8 = 1;
 const ONE_PART: u8 = 2;
 
 /// The payload of a commit.
-pub fn spell(alloc: Global, commit: &Commit) -> Result<Bytes, AllocError>
+pub fn spell(alloc: Global, commit: &Commit) -> Result<Seq<u8>, AllocError>
     requires { IsCommit commit.now }
     ensures { IfOk result (λ payload. payload ≡ commit_spelling commit.now) }
 {
@@ -33,8 +33,24 @@ pub fn spell(alloc: Global, commit: &Commit) -> Result<Bytes, AllocError>
     }
 }
 
+/// The payload of one new entry behind its length, 37 bytes, and a closed gate behind it: a part, the number of its rows,
+/// and the id of the entry. It takes no memory.
+pub fn frame_of_one(part: u64, rows: u64, id: BlockId) -> [u8; 42]
+    ensures { result ≡ to_le_bytes w32 37 ++ commit_spelling (Add part rows (id ∷ [])) ++ 0 ∷ [] }
+{
+    let mut frame = [0; 42];
+    frame[0] = 37;
+    frame[4] = NEW_ENTRIES;
+    frame[5..13].copy_from_slice(&part.to_le_bytes());
+    frame[13..21].copy_from_slice(&rows.to_le_bytes());
+    frame[21] = 1;
+    frame[25..33].copy_from_slice(&id.first.to_le_bytes());
+    frame[33..41].copy_from_slice(&id.second.to_le_bytes());
+    frame
+}
+
 // The payload of new entries.
-fn spell_add(alloc: Global, part: u64, rows: u64, ids: &[BlockId]) -> Result<Bytes, AllocError>
+fn spell_add(alloc: Global, part: u64, rows: u64, ids: &[BlockId]) -> Result<Seq<u8>, AllocError>
     requires { length ids.now < 2 ^ 32 }
     ensures { IfOk result (λ payload. payload ≡ commit_spelling (Add part rows ids.now)) }
 {
@@ -73,7 +89,7 @@ fn spell_merge(
     part: u64,
     level: u64,
     rows: u64,
-) -> Result<Bytes, AllocError>
+) -> Result<Seq<u8>, AllocError>
     ensures { IfOk result (λ payload. payload ≡ commit_spelling (Merge lo hi part level rows)) }
 {
     let mut bytes = Vec::with_capacity(alloc, 41)?;

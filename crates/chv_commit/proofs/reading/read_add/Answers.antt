@@ -10,6 +10,6 @@ returns-then-not-are_ids-clause-none c = λ is part rows ids of e.
     ∙ ap (λ (l : List ℕ). to_le_bytes w64 c.split_number-part.result.0 ++ l) (c.split_number-rows.ensures.split
     ∙ ap (λ (l : List ℕ). to_le_bytes w64 c.split_number-rows.result.0 ++ l) c.split_count-count.ensures.split) in
     let told = counted c.split_number-part.result.0 c.split_number-rows.result.0 c.split_count-count.result.0 part rows c.split_count-count.result.1.now ids
-    c.split_count-count.ensures.small of.1 (sym split ∙ ap (drop 1) e) in
-    let yes = c.if-not-are_ids.ensures.1 (omega (arith, told.0, of.0), omega (arith, told.0, told.1)) in
+    c.split_count-count.ensures.small of.3 (sym split ∙ ap (drop 1) e) in
+    let yes = c.if-not-are_ids.ensures.1 (omega (arith, told.0, of.2), omega (arith, told.0, told.1)) in
     cc

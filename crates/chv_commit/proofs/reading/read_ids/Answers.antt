@@ -1,10 +1,11 @@
 -- One id more is read.
 use Rattle.std.proofs.Common.{◌++◌, ◌∷◌, [], ◌∙◌, ap, sym, arith, List, ℕ, length, append_assoc, length-append}
 use Rattle.std.proofs.lemmas.Grind.{flat_map-append}
+use Rattle.std.proofs.lemmas.List.Elements.{All-push}
 use Rattle.std.specs.Int.{w64, to_le_bytes}
 use Rattle.std.specs.List.{flat_map}
 use Rattle.chv_sip.specs.declared.block_id.BlockId.{BlockId}
-use Rattle.chv_commit.specs.Commits.{id_spelling}
+use Rattle.chv_commit.specs.Commits.{id_spelling, AreWords}
 use Rattle.chv_commit.proofs.reading.read_ids.Goals as goal
 
 pub loop-preserved : goal.loop-preserved
@@ -13,6 +14,7 @@ loop-preserved c =
     record {
       count = omega (arith, ap length c.in_ok-push.ensures.items, length-append c.loop.ids.items (id ∷ []), c.loop.invariant.count);
       left = omega arith;
+      words = rw c.in_ok-push.ensures.items (All-push AreWords c.loop.ids.items id c.loop.invariant.words (omega arith, omega arith));
       spelled = c.loop.invariant.spelled
           ∙ ap (λ (rest : List ℕ). flat_map id_spelling c.loop.ids.items ++ rest)
           (c.split_number-first.ensures.split ∙ ap (λ (rest : List ℕ). to_le_bytes w64 id.first ++ rest) c.split_number-second.ensures.split)
