@@ -1,11 +1,12 @@
 // The checks of a definition, in order.
-ghost use Rattle.std.specs.Prelude.{◌≡◌, ◌≤◌, ◌<◌, length, is_some, Ok, Err, OnOk, IfOk, IfErr, IfSome, IsNone};
+ghost use Rattle.std.specs.Prelude.{◌≡◌, ◌≤◌, length, is_some, Ok, Err, OnOk, IfOk, IfErr};
 ghost use Rattle.chv_ast.specs.declared.refusal.Refusal.{Refusal};
 ghost use Rattle.chv_catalog.specs.Schemas.{place_of};
 ghost use Rattle.chv_define.specs.Checks.{checked_key, checked_names, checked_text, checked_window};
 ghost use Rattle.chv_define.specs.Definitions as spec;
 
 use crate::DefineFault;
+use crate::digits::number_up_to;
 use crate::names::{has_repeat, has_unknown, place};
 use chv_ast::{ColumnDefs, Digits, EngineWord, Name, Names, Refusal, Statement};
 use chv_catalog::Schema;
@@ -18,7 +19,7 @@ const MAX_DEFINITIONS: u32 = 256;
 /// The most columns of a table.
 const MAX_COLUMNS: usize = 64;
 /// The most ids that a table keeps.
-const MAX_WINDOW: u32 = 100_000;
+const MAX_WINDOW: u64 = 100_000;
 /// The most bytes of a definition's canonical text.
 const MAX_TEXT: usize = 1_048_576;
 
@@ -81,24 +82,12 @@ pub fn window_of(window: &Option<Digits>) -> Result<u32, Refusal>
     ensures { result ≡ checked_window window.now }
 {
     match window {
-        Some(digits) => small_number(digits.as_slice()).ok_or(Refusal::LimitPassed),
+        Some(digits) => match number_up_to(MAX_WINDOW, digits.as_slice()) {
+            Some(window) => Ok(window as u32),
+            None => Err(Refusal::LimitPassed),
+        },
         None => Ok(0),
     }
-}
-
-// The number of digits, where it is 100,000 at most.
-fn small_number(digits: &[u8]) -> Option<u32>
-    ensures number { IfSome result (λ n. (n ≡ spec.number_of digits.now) × (n ≤ 100000)) }
-    ensures great { IsNone result → 100000 < spec.number_of digits.now }
-{
-    let mut n: u32 = 0;
-    for digit in digits {
-        n = 10 * n + u32::from(digit.saturating_sub(b'0'));
-        if n > MAX_WINDOW {
-            return None;
-        }
-    }
-    Some(n)
 }
 
 // Whether a column of the key is a state.
