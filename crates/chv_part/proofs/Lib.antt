@@ -1,3 +1,5 @@
+pub mod BookLemmas
+pub mod BookRowLemmas
 pub mod ColumnLemmas
 pub mod FileLemmas
 pub mod PartLemmas

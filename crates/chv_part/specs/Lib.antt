@@ -1,4 +1,5 @@
 pub mod Books
 pub mod Columns
 pub mod Parts
+pub mod Standing
 pub mod Writing

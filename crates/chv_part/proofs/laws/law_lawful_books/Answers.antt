@@ -1,0 +1,8 @@
+use Rattle.chv_part.proofs.BookLemmas.{IsLawfulBook-no_book, IsLawfulBook-arrived}
+use Rattle.chv_part.proofs.laws.law_lawful_books.Goals as goal
+
+pub returns-clause-none : goal.returns-clause-none
+returns-clause-none c = IsLawfulBook-no_book
+
+pub returns-clause-arrived : goal.returns-clause-arrived
+returns-clause-arrived c = IsLawfulBook-arrived
