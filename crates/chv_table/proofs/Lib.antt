@@ -1,6 +1,5 @@
-pub mod BookLemmas
-pub mod CommitLemmas
 pub mod DeliveryLemmas
+pub mod EntryLemmas
 pub mod LogDamageLemmas
 pub mod OpeningLemmas
 pub mod RowsLemmas

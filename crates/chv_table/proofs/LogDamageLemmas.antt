@@ -1,102 +1,110 @@
 -- Where a table's log is damaged.
-use Rattle.std.proofs.Common.{◌≡◌, ℕ, suc, ◌+◌, ◌≤◌, List, [], ◌∷◌, ◌++◌, length, get_or, drop, refl, sym, ap, ap₂, ◌∙◌, arith, add-zero, length-append}
+use Rattle.std.proofs.Common.{◌≡◌, ℕ, ◌+◌, List, [], ◌∷◌, ◌++◌, map, get_or, drop, Some, refl, sym, ap, ap₂, subst, ◌∙◌}
 use Rattle.std.specs.List.{All}
-use Rattle.std.proofs.lemmas.List.Elements.{All-nil, All-cons}
-use Rattle.chv_gate.specs.GateLog.{IsPayload, HasFrames}
-use Rattle.chv_gate.specs.Reading.{IsReadUpTo, IsDamagedAt}
+use Rattle.std.proofs.lemmas.List.Elements.{All-head}
+use Rattle.std.proofs.lemmas.Option.{same_Some}
+use Rattle.chv_commit.specs.Commits.{commit_spelling, IsCommit}
+use Rattle.chv_commit.specs.Replays.{State, AreCommits, no_state, taken, replayed}
+use Rattle.chv_commit.specs.declared.commit.Commit.{Commit}
+use Rattle.chv_commit.proofs.CommitLemmas.{map_commit_spelling-injective}
+use Rattle.chv_commit.proofs.ReplayLemmas.{at_place-Some, replayed-front}
+use Rattle.chv_commit.proofs.SoundLemmas.{All-front, All-behind}
+use Rattle.chv_gate.specs.GateLog.{HasFrames}
+use Rattle.chv_gate.specs.Reading.{IsFollowed, IsReadUpTo, IsDamagedAt}
 use Rattle.chv_gate.proofs.DamageLaws.{damage_unique, damage_excludes}
 use Rattle.chv_part.specs.declared.damage.Damage.{Damage}
-use Rattle.chv_table.specs.Commits.{Commit, add_payload, adds, MAX_ENTRIES, AreCommits, IsNextCommit}
+use Rattle.chv_site.specs.declared.file_id.FileId.{FileId}
 use Rattle.chv_table.specs.Damage.{IsLogDamage}
 use Rattle.chv_table.specs.Opening.{LacksCommit}
-use Rattle.chv_table.proofs.CommitLemmas.{IsPayload-add}
 
--- each commit has one payload
-pub length-adds : (part : ℕ) (commits : List Commit) → length (adds part commits) ≡ length commits
-length-adds part [] = refl
-length-adds part (commit ∷ commits) = ap suc (length-adds (part + 1) commits)
+-- the log of a table
+abbrev pub log_of : ℕ → FileId
+log_of number = record { table = number; part = 0 }
 
-pub All-adds : (part : ℕ) (commits : List Commit) → All IsPayload (adds part commits)
-All-adds part [] = All-nil IsPayload
-All-adds part (commit ∷ commits) =
-    All-cons IsPayload (add_payload part commit.rows (commit.id ∷ [])) (adds (part + 1) commits) (IsPayload-add part commit.rows commit.id) (All-adds (part + 1) commits)
-
--- the payloads end in that of the last commit
-pub adds-push : (part : ℕ) (commits : List Commit) (commit : Commit) → adds part (commits ++ commit ∷ []) ≡ adds part commits ++ add_payload (part + length commits) commit.rows (commit.id ∷ []) ∷ []
-adds-push part [] commit = ap (λ (n : ℕ). add_payload n commit.rows (commit.id ∷ []) ∷ []) (sym (add-zero part))
-adds-push part (c ∷ commits) commit =
-    let place : part + 1 + length commits ≡ part + suc (length commits) = omega arith in
-    ap (λ (ps : List (List ℕ)). add_payload part c.rows (c.id ∷ []) ∷ ps)
-    (adds-push (part + 1) commits commit ∙ ap (λ (n : ℕ). adds (part + 1) commits ++ add_payload n commit.rows (commit.id ∷ []) ∷ []) place)
-
--- and the last payload of commits is a commit's
-last-adds : (part : ℕ) (commits all : List Commit) (payload : List ℕ) → adds part commits ++ payload ∷ [] ≡ adds part all → (commit : Commit) × (payload ≡ add_payload (part + length commits) commit.rows (commit.id ∷ []))
-last-adds part [] [] payload same = absurd (cc same)
-last-adds part [] (commit ∷ all) payload same =
-    (commit, ap (λ (l : List (List ℕ)). get_or l 0 []) same ∙ ap (λ (n : ℕ). add_payload n commit.rows (commit.id ∷ [])) (sym (add-zero part)))
-last-adds part (c ∷ commits) [] payload same = absurd (cc same)
-last-adds part (c ∷ commits) (commit ∷ all) payload same =
-    let last = last-adds (part + 1) commits all payload (ap (λ (l : List (List ℕ)). drop 1 l) same) in
-    let place : part + 1 + length commits ≡ part + suc (length commits) = omega arith in
-    (last.0, last.1 ∙ ap (λ (n : ℕ). add_payload n last.0.rows (last.0.id ∷ [])) place)
-
--- the first payloads of commits are those of the first commits
-front-adds : (part : ℕ) (xs ys : List (List ℕ)) (all : List Commit) → xs ++ ys ≡ adds part all → (commits : List Commit) × (xs ≡ adds part commits) × (length commits ≤ length all)
-front-adds part [] ys all same = ([], refl, omega arith)
-front-adds part (x ∷ xs) ys [] same = absurd (cc same)
-front-adds part (x ∷ xs) ys (commit ∷ all) same =
-    let rest = front-adds (part + 1) xs ys all (ap (λ (l : List (List ℕ)). drop 1 l) same) in
-    (commit ∷ rest.0, ap₂ (λ (p : List ℕ) (ps : List (List ℕ)). p ∷ ps) (ap (λ (l : List (List ℕ)). get_or l 0 []) same) rest.1, omega (arith, rest.2))
+-- payloads of commits are cut where the commits are
+front-payloads : (xs ys : List (List ℕ)) (commits : List Commit) → xs ++ ys ≡ map commit_spelling commits
+    → (front more : List Commit) × (commits ≡ front ++ more) × (xs ≡ map commit_spelling front) × (ys ≡ map commit_spelling more)
+front-payloads [] ys commits same = ([], commits, refl, refl, same)
+front-payloads (x ∷ xs) ys [] same = absurd (cc same)
+front-payloads (x ∷ xs) ys (commit ∷ commits) same =
+    let rest = front-payloads xs ys commits (ap (λ (l : List (List ℕ)). drop 1 l) same) in (
+      commit ∷ rest.0,
+      rest.1,
+      ap (λ (l : List Commit). commit ∷ l) rest.2,
+      ap₂ (λ (p : List ℕ) (ps : List (List ℕ)). p ∷ ps) (ap (λ (l : List (List ℕ)). get_or l 0 []) same) rest.3,
+      rest.4,
+    )
 
 -- payloads that are right stay so where the end of their list is left out
-pub front-AreCommits : (xs ys : List (List ℕ)) → AreCommits (xs ++ ys) → AreCommits xs
-front-AreCommits xs ys right =
-    let front = front-adds 8 xs ys right.commits right.are in
-    record { commits = front.0; are = front.1; bounded = omega (arith, front.2, right.bounded) }
-
--- behind commits, a payload that is right is the next commit
-next-AreCommits : (commits : List Commit) (payload : List ℕ) → AreCommits (adds 8 commits ++ payload ∷ []) → IsNextCommit (8 + length commits) payload
-next-AreCommits commits payload right =
-    let last = last-adds 8 commits right.commits payload right.are in
+pub front-AreCommits : (window : ℕ) (xs ys : List (List ℕ)) → AreCommits window (xs ++ ys) → AreCommits window xs
+front-AreCommits window xs ys right =
+    let front = front-payloads xs ys right.commits right.are in
+    let state = replayed-front window no_state right.state front.0 front.1 (rw front.2 at right.replays) in
     record {
-      room = omega (arith, right.bounded, ap length right.are, length-adds 8 right.commits, length-adds 8 commits, length-append (adds 8 commits) (payload ∷ []));
-      commit = last.0;
-      is = last.1;
+      commits = front.0;
+      right = All-front IsCommit front.0 front.1 (rw front.2 at right.right);
+      are = front.3;
+      state = state.0;
+      replays = state.1;
     }
 
--- behind the commits that were read, an open gate that lacks the next one is damage
-pub lacks_damage : (commits : List Commit) (gate : ℕ) (file : List ℕ) → length commits ≤ MAX_ENTRIES → IsReadUpTo gate (adds 8 commits) file → LacksCommit gate (8 + length commits) file → IsDamagedAt AreCommits (gate + 1) file
-lacks_damage commits gate file bounded read lacks = record {
-  payloads = adds 8 commits;
-  right = record { commits = commits; are = refl; bounded = bounded };
+-- the damage of a log names its table and a place
+pub log_damage_at : (number window : ℕ) (file : List ℕ) (damage : Damage) → IsLogDamage number window file damage → (at : ℕ) × (damage ≡ Damage.Log number at) × IsDamagedAt (AreCommits window) at file
+log_damage_at number window file (Damage.Catalog at) is = absurd is
+log_damage_at number window file (Damage.Log table at) is = (at, ap (λ (n : ℕ). Damage.Log n at) is.0, is.1)
+log_damage_at number window file (Damage.PartHash table part kept found) is = absurd is
+log_damage_at number window file (Damage.PartShape table part) is = absurd is
+
+-- a log is damaged in one way at most
+pub log_damage_unique : (number window : ℕ) (file : List ℕ) (a b : Damage) → IsLogDamage number window file a → IsLogDamage number window file b → a ≡ b
+log_damage_unique number window file a b of_a of_b =
+    let x = log_damage_at number window file a of_a in
+    let y = log_damage_at number window file b of_b in
+    x.1 ∙ ap (λ (at : ℕ). Damage.Log number at) (damage_unique (AreCommits window) (front-AreCommits window) file x.0 y.0 x.2 y.2) ∙ sym y.1
+
+-- a damaged log has no list of frames that is right
+pub log_damage_excludes : (number window : ℕ) (file : List ℕ) (damage : Damage) → IsLogDamage number window file damage → (payloads : List (List ℕ)) → HasFrames payloads file → AreCommits window payloads → ⊥
+log_damage_excludes number window file damage is payloads has right =
+    let x = log_damage_at number window file damage is in
+    damage_excludes (AreCommits window) (front-AreCommits window) file x.0 x.2 payloads has right
+
+-- a payload behind a log that is right is that of a commit that fits
+pub record FitsBehind (window : ℕ) (state : State) (payload : List ℕ) : Type 0 where
+  pub commit : Commit
+  pub right : IsCommit commit
+  pub spelled : payload ≡ commit_spelling commit
+  pub new : State
+  pub fits : taken window state commit ≡ Some new
+
+fits_alone : (window : ℕ) (state end : State) (payload : List ℕ) (commits : List Commit) → payload ∷ [] ≡ map commit_spelling commits → All IsCommit commits → replayed window state commits ≡ Some end → FitsBehind window state payload
+fits_alone window state end payload [] same right replays = absurd (cc same)
+fits_alone window state end payload (commit ∷ []) same right replays =
+    let one = at_place-Some (taken window state commit) (λ next. replayed window next []) end replays in
+    record { commit = commit; right = All-head IsCommit commit [] right; spelled = ap (λ (l : List (List ℕ)). get_or l 0 []) same; new = one.0; fits = one.1 }
+fits_alone window state end payload (commit ∷ next ∷ commits) same right replays = absurd (cc (ap (λ (l : List (List ℕ)). drop 1 l) same))
+
+fits_behind : (window : ℕ) (state : State) (commits : List Commit) (payload : List ℕ) → All IsCommit commits → replayed window no_state commits ≡ Some state
+    → AreCommits window (map commit_spelling commits ++ payload ∷ []) → FitsBehind window state payload
+fits_behind window state commits payload right replays all =
+    let front = front-payloads (map commit_spelling commits) (payload ∷ []) all.commits all.are in
+    let rights : All IsCommit (front.0 ++ front.1) = rw front.2 at all.right in
+    let same : commits ≡ front.0 = map_commit_spelling-injective commits front.0 right (All-front IsCommit front.0 front.1 rights) front.3 in
+    let cut = replayed-front window no_state all.state front.0 front.1 (rw front.2 at all.replays) in
+    let middle : state ≡ cut.0 = same_Some state cut.0 (sym replays ∙ ap (replayed window no_state) same ∙ cut.1) in
+    fits_alone window state all.state payload front.1 front.4 (All-behind IsCommit front.0 front.1 rights) (subst (λ (s : State). replayed window s front.1 ≡ Some all.state) (sym middle) cut.2)
+
+-- behind the commits that were read, an open gate that lacks a commit that fits is damage
+pub lacks_damage : (window gate : ℕ) (state : State) (file : List ℕ) (commits : List Commit) → All IsCommit commits → replayed window no_state commits ≡ Some state
+    → IsReadUpTo gate (map commit_spelling commits) file → LacksCommit gate window state file → IsDamagedAt (AreCommits window) (gate + 1) file
+lacks_damage window gate state file commits right replays read lacks = record {
+  payloads = map commit_spelling commits;
+  right = record { commits = commits; right = right; are = refl; state = state; replays = replays };
   gate = gate;
   read = read;
   opened = lacks.opened;
   place = refl;
-  wrong = λ payload next follows right. lacks.lacks payload next follows (next-AreCommits commits payload right);
+  wrong = λ payload next follows all.
+      let fits = fits_behind window state commits payload right replays all in
+      let none = lacks.lacks fits.commit next fits.right (subst (λ (p : List ℕ). IsFollowed gate p next file) fits.spelled follows) in
+      absurd (cc (sym none ∙ fits.fits));
 }
-
--- the damage of a log names its table and a place
-pub log_damage_at : (number : ℕ) (file : List ℕ) (damage : Damage) → IsLogDamage number file damage → (at : ℕ) × (damage ≡ Damage.Log number at) × IsDamagedAt AreCommits at file
-log_damage_at number file (Damage.Catalog at) is = absurd is
-log_damage_at number file (Damage.Log table at) is = (at, ap (λ (n : ℕ). Damage.Log n at) is.0, is.1)
-log_damage_at number file (Damage.PartHash table part kept found) is = absurd is
-log_damage_at number file (Damage.PartShape table part) is = absurd is
-
--- a log is damaged in one way at most
-pub log_damage_unique : (number : ℕ) (file : List ℕ) (a b : Damage) → IsLogDamage number file a → IsLogDamage number file b → a ≡ b
-log_damage_unique number file a b of_a of_b =
-    let x = log_damage_at number file a of_a in
-    let y = log_damage_at number file b of_b in
-    x.1 ∙ ap (λ (at : ℕ). Damage.Log number at) (damage_unique AreCommits front-AreCommits file x.0 y.0 x.2 y.2) ∙ sym y.1
-
--- a damaged log has no list of frames that is right
-pub log_damage_excludes : (number : ℕ) (file : List ℕ) (damage : Damage) → IsLogDamage number file damage → (payloads : List (List ℕ)) → HasFrames payloads file → AreCommits payloads → ⊥
-log_damage_excludes number file damage is payloads has right =
-    let x = log_damage_at number file damage is in
-    damage_excludes AreCommits front-AreCommits file x.0 x.2 payloads has right
-
--- a log with the commits of entries that a table has room for is not damaged
-pub commits_undamaged : (number : ℕ) (file : List ℕ) (damage : Damage) (commits : List Commit) → HasFrames (adds 8 commits) file → length commits ≤ MAX_ENTRIES → IsLogDamage number file damage → ⊥
-commits_undamaged number file damage commits has bounded is =
-    log_damage_excludes number file damage is (adds 8 commits) has (record { commits = commits; are = refl; bounded = bounded })

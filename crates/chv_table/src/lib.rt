@@ -1,7 +1,6 @@
 //! One table's files: its log of commits and its parts.
 #![tactic(auto)]
 
-mod commit;
 mod fault;
 mod opening;
 mod rows;
@@ -9,10 +8,8 @@ mod table;
 
 pub use fault::{PutFault, TableFault};
 pub use opening::{begin_table, open_table};
-pub use table::{MAX_ENTRIES, Table};
+pub use table::{Delivered, Table};
 
-#[cfg(test)]
-mod commit_tests;
 #[cfg(test)]
 mod opening_tests;
 #[cfg(test)]

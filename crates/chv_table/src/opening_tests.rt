@@ -6,20 +6,32 @@ ghost use Rattle.chv_table.specs.Tables.{AreColumns};
 use crate::{TableFault, open_table};
 use chv_ast::Seq;
 use chv_catalog::TableDef;
+use chv_commit::PartRow;
 use chv_part::Damage;
+use chv_sip::BlockId;
 use chv_site::{Fails, FileId, MemSite, Site};
 use chv_types::{Column, Columns, Engine, Kind, Places, Scalar};
 use std::alloc::{AllocError, Global};
 use std::test::Fail;
 
-// An open gate, and behind it the frame of the commit of part 8, up to the next gate. The part is at 6.
+// An open gate, and behind it the frame of one entry with the part 8 of one row, up to the next gate. The part is at 6, and
+// the entry's id, which is that number too, at 26.
 const COMMIT: [u8; 42] = [
-    1, 37, 0, 0, 0, 1, 8, 0, 0, 0, 0, 0, 0, 0, 1, 0, 0, 0, 0, 0, 0, 0, 1, 0, 0, 0, 0xc0, 0x29,
-    0xa8, 0x62, 0x4b, 0x75, 0x10, 0x83, 0xf5, 0xa5, 0x2e, 0xec, 0x24, 0x03, 0xd2, 0x4e,
+    1, 37, 0, 0, 0, 1, 8, 0, 0, 0, 0, 0, 0, 0, 1, 0, 0, 0, 0, 0, 0, 0, 1, 0, 0, 0, 8, 0, 0, 0, 0,
+    0, 0, 0, 0, 0, 0, 0, 0, 0, 0, 0,
 ];
 
-// A table of one column of numbers, which is its key.
-pub fn numbers(alloc: Global) -> Result<TableDef, AllocError>
+// The parts of the entries 1 and 2 become the part 10 of level 1, which holds two rows; three entries come with the part 11,
+// which holds six; and a closed gate.
+const MERGE_AND_THREE: [u8; 121] = [
+    1, 41, 0, 0, 0, 2, 1, 0, 0, 0, 0, 0, 0, 0, 2, 0, 0, 0, 0, 0, 0, 0, 10, 0, 0, 0, 0, 0, 0, 0, 1,
+    0, 0, 0, 0, 0, 0, 0, 2, 0, 0, 0, 0, 0, 0, 0, 1, 69, 0, 0, 0, 1, 11, 0, 0, 0, 0, 0, 0, 0, 6, 0,
+    0, 0, 0, 0, 0, 0, 3, 0, 0, 0, 30, 0, 0, 0, 0, 0, 0, 0, 0, 0, 0, 0, 0, 0, 0, 0, 31, 0, 0, 0, 0,
+    0, 0, 0, 0, 0, 0, 0, 0, 0, 0, 0, 32, 0, 0, 0, 0, 0, 0, 0, 0, 0, 0, 0, 0, 0, 0, 0, 0,
+];
+
+// A table of one column of numbers, which is its key, with a window of so many ids.
+pub fn numbers(alloc: Global, window: u32) -> Result<TableDef, AllocError>
     ensures { IfOk result (λ def. AreColumns (kinds_of def)) }
 {
     let mut columns: Columns = Seq::new(alloc);
@@ -34,7 +46,7 @@ pub fn numbers(alloc: Global) -> Result<TableDef, AllocError>
         columns,
         engine: Engine::MergeTree,
         key,
-        window: 0,
+        window,
     })
 }
 
@@ -50,6 +62,7 @@ fn site_with(
     for part in parts {
         let mut commit = COMMIT;
         commit[6] = *part;
+        commit[26] = *part;
         log.extend_from_slice(&commit)?;
     }
     log.extend_from_slice(behind)?;
@@ -64,13 +77,14 @@ fn site_with(
 #[test]
 fn each_commit_is_an_entry(rt: HostRuntime) -> Result<(), Fail> {
     let alloc = rt.alloc();
-    let def = numbers(alloc)?;
-    let cases: [(&[u8], &[u8], u64); 5] = [
+    let def = numbers(alloc, 4)?;
+    let cases: [(&[u8], &[u8], u64); 6] = [
         (&[], &[0], 0),
         (&[8], &[0], 1),
         (&[8, 9, 10], &[0], 3),
         (&[8], &[0, 37, 0, 0], 1),
         (&[], &[7], 0),
+        (&[8, 9], &MERGE_AND_THREE, 5),
     ];
     for (parts, behind, entries) in cases {
         let mut site = site_with(alloc, parts, behind, 0)?;
@@ -81,9 +95,41 @@ fn each_commit_is_an_entry(rt: HostRuntime) -> Result<(), Fail> {
 }
 
 #[test]
+fn a_log_gives_the_live_parts_and_the_last_ids(rt: HostRuntime) -> Result<(), Fail> {
+    let alloc = rt.alloc();
+    let mut site = site_with(alloc, &[8, 9], &MERGE_AND_THREE, 0)?;
+    let table = open_table(alloc, &mut site, 1, &numbers(alloc, 4)?)?;
+    let parts = [
+        PartRow {
+            lo: 1,
+            hi: 2,
+            level: 1,
+            part: 10,
+            rows: 2,
+        },
+        PartRow {
+            lo: 3,
+            hi: 5,
+            level: 0,
+            part: 11,
+            rows: 6,
+        },
+    ];
+    assert_eq!(rt; table.parts(), parts.as_slice());
+    for (first, kept) in [(8, false), (9, true), (30, true), (31, true), (32, true)] {
+        assert_eq!(rt;
+            table.window.has(BlockId { first, second: 0 }),
+            kept,
+            "at {first}"
+        );
+    }
+    Ok(())
+}
+
+#[test]
 fn a_torn_log_becomes_one_closed_gate(rt: HostRuntime) -> Result<(), Fail> {
     let alloc = rt.alloc();
-    let def = numbers(alloc)?;
+    let def = numbers(alloc, 4)?;
     let cases: [&[u8]; 2] = [&[], &[1]];
     for log in cases {
         let mut site = site_with(alloc, &[], log, 0)?;
@@ -97,11 +143,14 @@ fn a_torn_log_becomes_one_closed_gate(rt: HostRuntime) -> Result<(), Fail> {
 #[test]
 fn damage_is_told_behind_the_gate_where_it_begins(rt: HostRuntime) -> Result<(), Fail> {
     let alloc = rt.alloc();
-    let def = numbers(alloc)?;
+    let def = numbers(alloc, 4)?;
     let mut other_kind = [0u8; 43];
     other_kind[..42].copy_from_slice(&COMMIT);
     other_kind[5] = 2;
-    let cases: [(&[u8], &[u8], u64); 8] = [
+    // A merge of a level above that of its parts by two, in place of one.
+    let mut too_high = MERGE_AND_THREE;
+    too_high[30] = 2;
+    let cases: [(&[u8], &[u8], u64); 10] = [
         // An open gate, and nothing behind it; a frame without a gate behind it; and a length of 0.
         (&[8], &[1], 43),
         (&[8, 9], &[], 43),
@@ -113,6 +162,9 @@ fn damage_is_told_behind_the_gate_where_it_begins(rt: HostRuntime) -> Result<(),
         (&[8, 8], &[0], 43),
         (&[8, 10], &[0], 43),
         (&[8, 9, 8], &[0], 85),
+        // The two parts that become one are not there; and their one is of another level.
+        (&[8], &MERGE_AND_THREE, 43),
+        (&[8, 9], &too_high, 85),
     ];
     for (parts, behind, at) in cases {
         let mut site = site_with(alloc, parts, behind, 0)?;
@@ -128,7 +180,7 @@ fn damage_is_told_behind_the_gate_where_it_begins(rt: HostRuntime) -> Result<(),
 #[test]
 fn a_call_that_fails_is_told(rt: HostRuntime) -> Result<(), Fail> {
     let alloc = rt.alloc();
-    let def = numbers(alloc)?;
+    let def = numbers(alloc, 4)?;
     for failing in 2..9 {
         let mut site = site_with(alloc, &[8], &[0], failing)?;
         let opened = open_table(alloc, &mut site, 1, &def);

@@ -6,7 +6,9 @@ ghost use Rattle.chv_site.specs.Images.{IsLeft};
 ghost use Rattle.chv_site.specs.During.{During};
 ghost use Rattle.chv_block.specs.Spellings.{AllAreOf};
 ghost use Rattle.chv_merge.specs.NormalForms.{normal_form};
-ghost use Rattle.chv_part.specs.Books.{Book, rows_in};
+ghost use Rattle.std.specs.List.{flat_map};
+ghost use Rattle.chv_commit.specs.declared.part_row.PartRow.{PartRow as LivePart};
+ghost use Rattle.chv_part.specs.Books.{Book, rows_in, part_rows};
 ghost use Rattle.chv_part.specs.Parts.{part_file};
 ghost use Rattle.chv_part.specs.declared.damage.Damage.{Damage};
 ghost use Rattle.chv_table.specs.Damage.{IsDamageOfPart, IsPartDamage, ArePartsWhole};
@@ -15,7 +17,7 @@ ghost use Rattle.chv_table.specs.Tables.{AreColumns, IsWithin, HoldsBook};
 use crate::{Table, TableFault};
 use chv_merge::normal;
 use chv_part::{Damage, PartFault, read_part};
-use chv_site::{FIRST_PART, FileId, Site};
+use chv_site::{FileId, Site};
 use chv_types::{Block, Kinds, Row};
 use std::alloc::{AllocError, Global};
 
@@ -26,9 +28,9 @@ impl Table {
     pub fn rows<W: Site>(&self, alloc: Global, site: &mut W) -> Result<Block, TableFault>
         requires within { IsWithin self.now }
         ensures rows { W.tells → IfOk result (λ rows. (book : Book) → HoldsBook self.now (W.state site.old) book → rows ≡ normal_form self.now.key (rows_in book)) }
-        ensures whole { W.tells → OnOk result (ArePartsWhole self.now.number self.now.kinds self.now.next_part (λ f. (W.state site.old f).bytes)) }
+        ensures whole { W.tells → OnOk result (ArePartsWhole self.now.number self.now.kinds self.now.layout.items (λ f. (W.state site.old f).bytes)) }
         ensures damaged { W.tells → (damage : Damage) → IsErrOf result (TableFault.Damaged damage)
-            → IsPartDamage self.now.number self.now.kinds self.now.next_part (λ f. (W.state site.old f).bytes) damage }
+            → IsPartDamage self.now.number self.now.kinds self.now.layout.items (λ f. (W.state site.old f).bytes) damage }
         ensures files { W.tells → KeepsFiles (W.state site.old) (W.state site.new) }
         ensures said { W.tells → W.said site.new ≡ W.said site.old }
         ensures during { W.tells → During W.moment W.left_since site.old site.new (IsLeft (W.state site.old) (W.said site.old)) }
@@ -40,13 +42,14 @@ impl Table {
         Ok(normal(&self.key, Block::of_items(rows))?)
     }
 
-    // The rows of all live parts, in the order of arrival.
+    // The rows of all live parts, part by part.
     fn read_parts<W: Site>(&self, alloc: Global, site: &mut W) -> Result<Vec<Row>, TableFault>
         requires columns { AreColumns self.now.kinds }
-        ensures rows { W.tells → IfOk result (λ rows. (book : Book) → HoldsBook self.now (W.state site.old) book → rows.items ≡ rows_in book) }
-        ensures whole { W.tells → OnOk result (ArePartsWhole self.now.number self.now.kinds self.now.next_part (λ f. (W.state site.old f).bytes)) }
+        ensures rows { W.tells → IfOk result (λ rows. (book : Book) → HoldsBook self.now (W.state site.old) book
+            → rows.items ≡ flat_map (λ (row : LivePart). part_rows self.now.key book row.lo row.hi) self.now.layout.items) }
+        ensures whole { W.tells → OnOk result (ArePartsWhole self.now.number self.now.kinds self.now.layout.items (λ f. (W.state site.old f).bytes)) }
         ensures damaged { W.tells → (damage : Damage) → IsErrOf result (TableFault.Damaged damage)
-            → IsPartDamage self.now.number self.now.kinds self.now.next_part (λ f. (W.state site.old f).bytes) damage }
+            → IsPartDamage self.now.number self.now.kinds self.now.layout.items (λ f. (W.state site.old f).bytes) damage }
         ensures files { W.tells → KeepsFiles (W.state site.old) (W.state site.new) }
         ensures said { W.tells → W.said site.new ≡ W.said site.old }
         ensures during { W.tells → During W.moment W.left_since site.old site.new (IsLeft (W.state site.old) (W.said site.old)) }
@@ -55,8 +58,8 @@ impl Table {
         ensures other_faults { W.say_faults site.new ≡ W.say_faults site.old }
     {
         let mut rows = Vec::new(alloc);
-        for part in FIRST_PART..self.next_part {
-            let read = read_live_part(alloc, site, self.number, part, &self.kinds)?;
+        for row in self.layout.as_slice() {
+            let read = read_live_part(alloc, site, self.number, row.part, &self.kinds)?;
             rows.append(&mut read.into_items())?;
         }
         Ok(rows)

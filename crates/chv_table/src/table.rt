@@ -1,20 +1,29 @@
 // One table while a run goes on.
-ghost use Rattle.std.specs.Prelude.{◌≡◌, ◌+◌, ◌<◌, OnOk};
+ghost use Rattle.std.specs.Prelude.{◌≡◌, ◌↔◌, ◌+◌, ◌*◌, ◌<◌, ◌≤◌, ◌^◌, ℕ, [], ◌∷◌, length, IfOk, OnOk, OnErr};
+ghost use Rattle.std.specs.List.{Contains};
 ghost use Rattle.chv_site.specs.Faults.{IsCounted};
 ghost use Rattle.chv_site.specs.During.{During};
-ghost use Rattle.chv_part.specs.Books.{Entry, Book, arrived};
-ghost use Rattle.chv_table.specs.Commits.{MAX_ENTRIES};
-ghost use Rattle.chv_table.specs.Tables.{IsWithin, IsPlaced, HoldsBook, KeepsTables, Brings, DeliveryLeft};
+ghost use Rattle.chv_commit.specs.Replays.{added};
+ghost use Rattle.chv_part.specs.Books.{Entry, Book, appended, arrived};
+ghost use Rattle.chv_table.specs.Tables.{IsWithin, IsPlaced, HoldsBook, KeepsTables, Brings, DeliveryLeft, held_form, held_state, spare, HasRoomFor};
 
-use crate::commit::frame_of_one;
+use chv_commit::{PartRow, frame_of_one};
 use chv_gate::Log;
 use chv_part::write_part;
 use chv_sip::BlockId;
-use chv_site::{FIRST_PART, Failed, FileId, Site};
+use chv_site::{Failed, FileId, Site};
 use chv_types::{Kinds, Places};
+use chv_window::Window;
+use std::alloc::AllocError;
 
-/// The most entries that a table has.
-pub const MAX_ENTRIES: u64 = 1 << 40;
+/// What became of a delivery.
+#[derive(Clone, Copy, Debug, PartialEq, Eq)]
+pub enum Delivered {
+    /// The block is the table's last entry.
+    Written,
+    /// A block with this id is among the last that were delivered, so nothing was written.
+    Skipped,
+}
 
 /// A table: what a run holds of its definition and of its log, so that no insert reads it again.
 #[derive(Debug, Drop)]
@@ -26,22 +35,81 @@ pub struct Table {
     /// The places of its sorting key's columns, in key order.
     pub(crate) key: Places,
     pub(crate) log: Log,
-    /// The number of the next part. Each entry has a part of its own.
+    /// The live parts in order.
+    pub(crate) layout: Vec<PartRow>,
+    /// How many entries there are.
+    pub(crate) entries: u64,
+    /// The number of the next part.
     pub(crate) next_part: u64,
+    /// The ids of the last entries.
+    pub(crate) window: Window,
 }
 
 impl Table {
     /// How many entries the table has.
     pub fn entries(&self) -> u64
-        requires { IsWithin self.now }
-        ensures { result + 8 ≡ self.now.next_part }
+        ensures { result ≡ self.now.entries }
     {
-        self.next_part - FIRST_PART
+        self.entries
     }
 
-    /// Delivers a block: its part, which is `encoded`, is written and synced, then its commit is appended. The part holds
-    /// so many rows, in normal form. It takes no memory. After an `Err` the table is not used again.
+    /// The live parts, each behind the entries of the one before.
+    pub fn parts(&self) -> &[PartRow]
+        ensures { result.now ≡ self.now.layout.items }
+    {
+        self.layout.as_slice()
+    }
+
+    /// Makes room in memory for so many deliveries. An `Err` leaves the table as it was.
+    pub fn reserve(&mut self, count: u64) -> Result<(), AllocError>
+        requires few { count ≤ 2 ^ 32 }
+        ensures room { OnOk result (count ≤ spare self.new) }
+        ensures same { self.new ≡ record self.old { layout = self.new.layout } }
+        ensures layout { self.new.layout.items ≡ self.old.layout.items }
+        ensures err { OnErr result (spare self.new ≡ spare self.old) }
+    {
+        self.layout.reserve(count as usize)
+    }
+
+    /// Delivers a block: where its id is among the last, nothing is done; else its part, which is `encoded`, is written and
+    /// synced, and then its commit is appended. The part holds so many rows, in normal form. It takes no memory. After an
+    /// `Err` the table is not used again.
     pub fn deliver<W: Site>(
+        &mut self,
+        site: &mut W,
+        id: BlockId,
+        rows: u64,
+        encoded: &[u8],
+    ) -> Result<Delivered, Failed>
+        requires within { IsWithin self.old }
+        requires room { HasRoomFor 1 self.old }
+        requires placed { W.tells → IsPlaced self.old (W.state site.old) }
+        ensures delivered { W.tells → OnOk result ((book : Book) (entry : Entry) → Brings self.old id rows encoded.now entry
+            → HoldsBook self.old (W.state site.old) book → HoldsBook self.new (W.state site.new) (arrived self.old.window.size entry book)) }
+        ensures skipped { IfOk result (λ delivered. (delivered ≡ Delivered.Skipped) ↔ Contains self.old.window.ids id) }
+        ensures nothing { IfOk result (λ delivered. delivered ≡ Delivered.Skipped → (self.new ≡ self.old) × (site.new ≡ site.old)) }
+        ensures written { IfOk result (λ delivered. delivered ≡ Delivered.Written → self.new.entries ≡ self.old.entries + 1) }
+        ensures room { OnOk result ((count : ℕ) → HasRoomFor (count + 1) self.old → HasRoomFor count self.new) }
+        ensures within { OnOk result (IsWithin self.new) }
+        ensures placed { W.tells → OnOk result (IsPlaced self.new (W.state site.new)) }
+        ensures same { (self.new.number ≡ self.old.number) × (held_form self.new ≡ held_form self.old) }
+        ensures others { W.tells → KeepsTables self.old.number (W.state site.old) (W.state site.new) }
+        ensures said { W.tells → W.said site.new ≡ W.said site.old }
+        // A crash at any moment of the call leaves the table's book from before it or after it.
+        ensures during { W.tells → (book : Book) (entry : Entry) → Brings self.old id rows encoded.now entry → HoldsBook self.old (W.state site.old) book
+            → During W.moment W.left_since site.old site.new (DeliveryLeft self.old book (arrived self.old.window.size entry book) (W.state site.old) (W.said site.old)) }
+        ensures failed { IsCounted (W.disk_faults site.old) (W.disk_faults site.new) result }
+        ensures other_faults { W.say_faults site.new ≡ W.say_faults site.old }
+    {
+        if self.window.has(id) {
+            return Ok(Delivered::Skipped);
+        }
+        self.write(site, id, rows, encoded)?;
+        Ok(Delivered::Written)
+    }
+
+    // Writes a block that is not skipped: its part, and then its commit.
+    fn write<W: Site>(
         &mut self,
         site: &mut W,
         id: BlockId,
@@ -49,18 +117,20 @@ impl Table {
         encoded: &[u8],
     ) -> Result<(), Failed>
         requires within { IsWithin self.old }
-        requires room { self.old.next_part < 8 + MAX_ENTRIES }
+        requires room { HasRoomFor 1 self.old }
         requires placed { W.tells → IsPlaced self.old (W.state site.old) }
-        ensures delivered { W.tells → OnOk result ((book : Book) (entry : Entry) → Brings self.old id rows encoded.now entry
-            → HoldsBook self.old (W.state site.old) book → HoldsBook self.new (W.state site.new) (arrived entry book)) }
+        requires new { Contains self.old.window.ids id → ⊥ }
+        ensures written { W.tells → OnOk result ((book : Book) (entry : Entry) → Brings self.old id rows encoded.now entry
+            → HoldsBook self.old (W.state site.old) book → HoldsBook self.new (W.state site.new) (appended entry book)) }
+        ensures entries { OnOk result (self.new.entries ≡ self.old.entries + 1) }
+        ensures room { OnOk result ((count : ℕ) → HasRoomFor (count + 1) self.old → HasRoomFor count self.new) }
         ensures within { OnOk result (IsWithin self.new) }
         ensures placed { W.tells → OnOk result (IsPlaced self.new (W.state site.new)) }
-        ensures same { (self.new.number ≡ self.old.number) × (self.new.kinds ≡ self.old.kinds) × (self.new.key ≡ self.old.key) }
+        ensures same { (self.new.number ≡ self.old.number) × (held_form self.new ≡ held_form self.old) }
         ensures others { W.tells → KeepsTables self.old.number (W.state site.old) (W.state site.new) }
         ensures said { W.tells → W.said site.new ≡ W.said site.old }
-        // A crash at any moment of the call leaves the table's book from before it or after it.
         ensures during { W.tells → (book : Book) (entry : Entry) → Brings self.old id rows encoded.now entry → HoldsBook self.old (W.state site.old) book
-            → During W.moment W.left_since site.old site.new (DeliveryLeft self.old book (arrived entry book) (W.state site.old) (W.said site.old)) }
+            → During W.moment W.left_since site.old site.new (DeliveryLeft self.old book (appended entry book) (W.state site.old) (W.said site.old)) }
         ensures failed { IsCounted (W.disk_faults site.old) (W.disk_faults site.new) result }
         ensures other_faults { W.say_faults site.new ≡ W.say_faults site.old }
     {
@@ -68,7 +138,34 @@ impl Table {
         write_part(site, part, encoded)?;
         self.log
             .append(site, &frame_of_one(self.next_part, rows, id))?;
-        self.next_part += 1;
+        self.note(id, rows);
         Ok(())
+    }
+
+    // Notes a block that was written. It takes no memory.
+    fn note(&mut self, id: BlockId, rows: u64)
+        requires counted { self.old.next_part + length self.old.layout.items ≤ 8 + 2 * self.old.entries }
+        requires room { HasRoomFor 1 self.old }
+        ensures state { held_state self.new ≡ added self.old.window.size self.old.next_part rows (id ∷ []) (held_state self.old) }
+        ensures size { self.new.window.size ≡ self.old.window.size }
+        ensures same { self.new ≡ record self.old { layout = self.new.layout; entries = self.new.entries; next_part = self.new.next_part; window = self.new.window } }
+        ensures room { spare self.old ≤ spare self.new + 1 }
+    {
+        let row = PartRow {
+            lo: self.entries + 1,
+            hi: self.entries + 1,
+            level: 0,
+            part: self.next_part,
+            rows,
+        };
+        match self.layout.push(row) {
+            Ok(()) => {}
+            Err(_) => {
+                prove!(false);
+            }
+        }
+        self.entries += 1;
+        self.next_part += 1;
+        self.window.push(id);
     }
 }

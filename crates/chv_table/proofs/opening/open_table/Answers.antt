@@ -1,28 +1,36 @@
 -- The log is begun, and then its commits are read.
-use Rattle.std.proofs.Common.{◌≡◌, ◌+◌, ◌<◌, List, ℕ, Option, IfSome, Err, sym, ap, subst, ◌∙◌, arith}
+use Rattle.std.proofs.Common.{◌≡◌, ◌+◌, ◌≤◌, List, ℕ, length, Option, IfSome, IsNone, Err, refl, sym, ap, subst, ◌∙◌, arith}
 use Rattle.std.proofs.lemmas.Result.{err_from_is_err_and}
 use Rattle.chv_site.specs.declared.file_id.FileId.{FileId}
 use Rattle.chv_site.specs.Files.{FileState, settled, KeepsOthers}
 use Rattle.chv_site.specs.During.{During}
+use Rattle.chv_commit.specs.Replays.{Seen}
 use Rattle.chv_gate.specs.GateLog.{HasFrames, begun}
 use Rattle.chv_gate.specs.Crashes.{IsLeftWith, LeavesFrames}
 use Rattle.chv_gate.proofs.BegunLemmas.{during_begun}
 use Rattle.chv_part.specs.declared.damage.Damage.{Damage}
 use Rattle.chv_table.specs.declared.fault.TableFault.{TableFault}
 use Rattle.chv_table.specs.declared.table.Table.{Table}
-use Rattle.chv_table.specs.Opening.{ReadsCommit, LacksCommit}
-use Rattle.chv_table.specs.Commits.{MAX_ENTRIES}
-use Rattle.chv_table.proofs.OpeningLemmas.{log_of, read_none, read_next, read_damage, HasOpened, log_ended, opened_commits, opened_frames, opened_book}
+use Rattle.chv_table.specs.Tables.{held_state, IsWithin}
+use Rattle.chv_table.specs.Opening.{ReadsCommit, TakesCommit, LacksCommit}
+use Rattle.chv_table.proofs.LogDamageLemmas.{log_of}
+use Rattle.chv_table.proofs.OpeningLemmas.{HasTaken, took_none, took_next, took_sound, took_part, took_ids, HasRead, read_none, read_next, read_damage, HasOpened, opened_within, opened_commits, opened_placed, opened_frames, opened_book}
 use Rattle.chv_table.proofs.opening.open_table.Given.{Over}
+use Rattle.chv_table.proofs.opening.open_table.Goals.{After-begin, After-take_commit, In_ok-replayed_table-in-None}
 use Rattle.chv_table.proofs.opening.open_table.Goals as goal
 
-pub returns-in_err-begin-clause-during : goal.returns-in_err-begin-clause-during
-returns-in_err-begin-clause-during g c = λ tells payloads leaves.
+-- a crash while the log is begun leaves its frames
+begin_left : (g : Over) (c : After-begin g) → g.W.Site.tells → (payloads : List (List ℕ)) → LeavesFrames payloads (g.W.Site.state c.args.site.now (log_of c.args.number))
+    → During g.W.Site.moment g.W.Site.left_since c.args.site.now c.begin.new.site (IsLeftWith (log_of c.args.number) (HasFrames payloads) (g.W.Site.state c.args.site.now) (g.W.Site.said c.args.site.now))
+begin_left g c tells payloads leaves =
     let S = g.W.Site in
     let before = S.state c.args.site.now in
     let is = c.table_log-file.ensures in
     subst (λ (f : FileId). During S.moment S.left_since c.args.site.now c.begin.new.site (IsLeftWith f (HasFrames payloads) before (S.said c.args.site.now))) is
-    (c.in_err-begin.ensures.during tells payloads (subst (λ (f : FileId). LeavesFrames payloads (before f)) (sym is) leaves))
+    (c.begin.ensures.during tells payloads (subst (λ (f : FileId). LeavesFrames payloads (before f)) (sym is) leaves))
+
+pub returns-in_err-begin-clause-during : goal.returns-in_err-begin-clause-during
+returns-in_err-begin-clause-during g c = begin_left g (goal.at.returns-in_err-begin-clause-during g c).After-begin
 
 pub commits-init : goal.commits-init
 commits-init g c =
@@ -30,112 +38,162 @@ commits-init g c =
     let before = S.state c.args.site.now in
     let now = S.state c.begin.new.site in
     let is = c.table_log-file.ensures in
+    let window : c.in_ok-replay.replay.window ≡ c.args.def.now.window = ap (λ (r : Seen). r.window) c.in_ok-replay.ensures in
     record {
-      kinds = c.in_ok-kinds.ensures;
-      key = c.in_ok-key.ensures;
-      first = omega arith;
-      bounded = omega arith;
-      gate = omega arith;
-      read = λ tells. read_none (begun (before (log_of c.args.number)).bytes);
+      window = window;
+      ids = omega (arith, ap (λ (r : Seen). length r.state.ids) c.in_ok-replay.ensures);
+      took = subst (λ (r : Seen). HasTaken 0 r.window r.state) (sym c.in_ok-replay.ensures) (took_none c.args.def.now.window);
+      read = λ tells. subst (λ (r : Seen). HasRead 0 r.window r.state (begun (before (log_of c.args.number)).bytes)) (sym c.in_ok-replay.ensures)
+          (read_none c.args.def.now.window (begun (before (log_of c.args.number)).bytes));
       begun_now = λ tells. subst (λ (f : FileId). now f ≡ settled (begun (before f).bytes)) is (c.in_ok-begin.ensures.begun tells);
       others = λ tells. subst (λ (f : FileId). KeepsOthers f before now) is (c.in_ok-begin.ensures.others tells);
       said = c.in_ok-begin.ensures.said;
-      left = λ tells payloads leaves.
-          subst (λ (f : FileId). During S.moment S.left_since c.args.site.now c.begin.new.site (IsLeftWith f (HasFrames payloads) before (S.said c.args.site.now))) is
-          (c.in_ok-begin.ensures.during tells payloads (subst (λ (f : FileId). LeavesFrames payloads (before f)) (sym is) leaves));
+      left = begin_left g (goal.at.commits-init g c).After-begin;
       faults = c.in_ok-begin.ensures.failed.keeps;
       other_faults = c.in_ok-begin.ensures.other_faults;
     }
 
+-- once a commit was looked for
+module _ (g : Over) (c : After-take_commit g) where
+  -- a crash leaves the frames of the log from before the call
+  pub frames_left : g.W.Site.tells → (payloads : List (List ℕ)) → LeavesFrames payloads (g.W.Site.state c.args.site.now (log_of c.args.number))
+      → During g.W.Site.moment g.W.Site.left_since c.args.site.now c.take_commit.new.site (IsLeftWith (log_of c.args.number) (HasFrames payloads) (g.W.Site.state c.args.site.now) (g.W.Site.said c.args.site.now))
+  frames_left tells payloads leaves =
+      let S = g.W.Site in
+      let log = log_of c.args.number in
+      let so_far = c.commits.invariant in
+      during_begun S.moment S.left_since S.state S.said log payloads c.args.site.now c.commits.site c.take_commit.new.site leaves (g.met.W.Site.reads c.args.site.now log)
+      (so_far.begun_now tells) (so_far.others tells) (so_far.said tells) (so_far.left tells payloads leaves) (c.take_commit.ensures.during tells)
+
+  -- what was read is the log once it is begun
+  pub log_read : g.W.Site.tells → (g.W.Site.state c.commits.site c.table_log-file.result).bytes ≡ begun (g.W.Site.state c.args.site.now (log_of c.args.number)).bytes
+  log_read tells = ap (λ (f : FileId). (g.W.Site.state c.commits.site f).bytes) c.table_log-file.ensures ∙ ap (λ (s : FileState). s.bytes) (c.commits.invariant.begun_now tells)
+
+pub returns-in_err-next-clause-during : goal.returns-in_err-next-clause-during
+returns-in_err-next-clause-during g c = frames_left g (goal.at.returns-in_err-next-clause-during g c).After-take_commit
+
+pub returns-in_err-replayed_table-in-None-clause-during : goal.returns-in_err-replayed_table-in-None-clause-during
+returns-in_err-replayed_table-in-None-clause-during g c = frames_left g (goal.at.returns-in_err-replayed_table-in-None-clause-during g c).After-take_commit
+
+pub returns-in-None-clause-during : goal.returns-in-None-clause-during
+returns-in-None-clause-during g c = frames_left g (goal.at.returns-in-None-clause-during g c).After-take_commit
+
 pub returns-in_err-next-clause-damaged : goal.returns-in_err-next-clause-damaged
 returns-in_err-next-clause-damaged g c = λ tells damage is.
-    let S = g.W.Site in
-    let log = log_of c.args.number in
     let so_far = c.commits.invariant in
     let p = err_from_is_err_and c.from_residual-in_err-next.result c.from_residual-in_err-next.ensures.1 in
     let same : p.0 ≡ TableFault.Damaged damage = cc (sym p.1 ∙ is) in
     let told = c.in_err-next.ensures.damaged tells damage (ap Err (sym p.2 ∙ same)) in
-    let file : (S.state c.commits.site c.table_log-file.result).bytes ≡ begun (S.state c.args.site.now log).bytes =
-    ap (λ (f : FileId). (S.state c.commits.site f).bytes) c.table_log-file.ensures ∙ ap (λ (s : FileState). s.bytes) (so_far.begun_now tells) in
-    read_damage c.args.number c.commits.gate c.commits.next_part (S.state c.args.site.now log).bytes damage (so_far.read tells) so_far.bounded
-    (told.0 ∙ ap (λ (f : FileId). Damage.Log f.table (c.commits.gate + 1)) c.table_log-file.ensures, subst (LacksCommit c.commits.gate c.commits.next_part) file told.1)
+    let state = c.commits.replay.state in
+    let window = c.args.def.now.window in
+    let file = (g.W.Site.state c.args.site.now (log_of c.args.number)).bytes in
+    read_damage c.args.number c.commits.gate window state file damage (subst (λ (n : ℕ). HasRead c.commits.gate n state (begun file)) so_far.window (so_far.read tells)) (
+      told.0 ∙ ap (λ (f : FileId). Damage.Log f.table (c.commits.gate + 1)) c.table_log-file.ensures,
+      subst (LacksCommit c.commits.gate window state) (log_read g (goal.at.returns-in_err-next-clause-damaged g c).After-take_commit tells)
+          (subst (λ (n : ℕ). LacksCommit c.commits.gate n state (g.W.Site.state c.commits.site c.table_log-file.result).bytes) so_far.window told.1),
+    )
 
-pub returns-in_err-next-clause-during : goal.returns-in_err-next-clause-during
-returns-in_err-next-clause-during g c = λ tells payloads leaves.
-    let S = g.W.Site in
-    let log = log_of c.args.number in
-    let so_far = c.commits.invariant in
-    during_begun S.moment S.left_since S.state S.said log payloads c.args.site.now c.commits.site c.read_commit.new.site leaves (g.met.W.Site.reads c.args.site.now log)
-    (so_far.begun_now tells) (so_far.others tells) (so_far.said tells) (so_far.left tells payloads leaves) (c.in_err-next.ensures.during tells)
+-- a commit was taken
+took_one : (g : Over) (c : goal.In-Some g) → TakesCommit c.commits.gate c.commits.replay.window c.commits.replay.state c.in-Some.next c.take_commit.new.replay.state
+took_one g c =
+    let old = c.commits.replay in
+    subst (λ (read : Option ℕ). IfSome read (λ next. TakesCommit c.commits.gate old.window old.state next c.take_commit.new.replay.state)) c.in-Some.is c.in_ok-next.ensures.forward
+
+pub commits-smaller : goal.commits-smaller
+commits-smaller g c =
+    let old = c.commits.replay in
+    let new = c.take_commit.new.replay in
+    let took = took_one g c in
+    let sound = took_sound c.in-Some.next old.window new.state (took_next c.commits.gate old.window old.state c.in-Some.next new.state c.commits.invariant.took took) in
+    omega (arith, took_part c.commits.gate old.window old.state c.in-Some.next new.state took, sound.counted, sound.bounded)
 
 pub commits-preserved : goal.commits-preserved
 commits-preserved g c =
     let S = g.W.Site in
     let log = log_of c.args.number in
-    let before = S.state c.args.site.now in
-    let mid = S.state c.commits.site in
+    let file = (S.state c.args.site.now log).bytes in
     let so_far = c.commits.invariant in
-    let forward : (c.in-Some.next ≡ c.commits.gate + 42) × (c.commits.next_part < 8 + MAX_ENTRIES) =
-    subst (λ (read : Option ℕ). IfSome read (λ next. (next ≡ c.commits.gate + 42) × (c.commits.next_part < 8 + MAX_ENTRIES))) c.in-Some.is c.in_ok-next.ensures.forward in
+    let at = (goal.at.commits-preserved g c).After-take_commit in
+    let old = c.commits.replay in
+    let new = c.take_commit.new.replay in
+    let next = c.in-Some.next in
+    let same = c.take_commit.ensures.window in
+    let took = took_one g c in
     record {
-      kinds = so_far.kinds;
-      key = so_far.key;
-      first = omega (arith, so_far.first);
-      bounded = omega (arith, forward.1);
-      gate = omega (arith, forward.0, so_far.gate, so_far.first);
+      window = same ∙ so_far.window;
+      ids = subst (λ (n : ℕ). length new.state.ids ≤ n) (sym same) (took_ids c.commits.gate old.window old.state next new.state took so_far.ids);
+      took = subst (λ (n : ℕ). HasTaken next n new.state) (sym same) (took_next c.commits.gate old.window old.state next new.state so_far.took took);
       read = λ tells.
-          let file : (mid c.table_log-file.result).bytes ≡ begun (before log).bytes = ap (λ (f : FileId). (mid f).bytes) c.table_log-file.ensures ∙ ap (λ (s : FileState). s.bytes) (so_far.begun_now tells) in
-          let read = subst (ReadsCommit c.commits.gate c.commits.next_part (begun (before log).bytes)) c.in-Some.is
-          (subst (λ (bytes : List ℕ). ReadsCommit c.commits.gate c.commits.next_part bytes c.in_ok-next.field-0) file (c.in_ok-next.ensures.read tells)) in
-          read_next c.commits.gate c.commits.next_part (begun (before log).bytes) read.1.0 c.in-Some.next (so_far.read tells) read.0 read.1.1 read.1.2;
+          let read = subst (λ (read : Option ℕ). ReadsCommit c.commits.gate old.window old.state (begun file) read new.state) c.in-Some.is
+          (subst (λ (bytes : List ℕ). ReadsCommit c.commits.gate old.window old.state bytes c.in_ok-next.field-0 new.state) (log_read g at tells) (c.in_ok-next.ensures.read tells)) in
+          subst (λ (n : ℕ). HasRead next n new.state (begun file)) (sym same) (read_next c.commits.gate old.window old.state new.state (begun file) next (so_far.read tells) read);
       begun_now = λ tells. c.in_ok-next.ensures.files tells log ∙ so_far.begun_now tells;
       others = λ tells f apart. c.in_ok-next.ensures.files tells f ∙ so_far.others tells f apart;
       said = λ tells. c.in_ok-next.ensures.said tells ∙ so_far.said tells;
-      left = λ tells payloads leaves.
-          during_begun S.moment S.left_since S.state S.said log payloads c.args.site.now c.commits.site c.read_commit.new.site leaves (g.met.W.Site.reads c.args.site.now log)
-          (so_far.begun_now tells) (so_far.others tells) (so_far.said tells) (so_far.left tells payloads leaves) (c.in_ok-next.ensures.during tells);
+      left = frames_left g at;
       faults = omega (arith, so_far.faults, c.in_ok-next.ensures.faults);
       other_faults = c.in_ok-next.ensures.other_faults ∙ so_far.other_faults;
     }
 
 -- the log was read to its end
-module _ (g : Over) (c : goal.After-at g) where
+module _ (g : Over) (c : In_ok-replayed_table-in-None g) where
   abbrev table : Table
-  table = record { number = c.args.number; kinds = c.commits.kinds; key = c.commits.key; log = c.at.result; next_part = c.commits.next_part }
+  table = c.in_ok-replayed_table-in-None.field-0
 
-  opened : g.W.Site.tells → HasOpened c.commits.gate (g.W.Site.state c.args.site.now) (g.W.Site.state c.read_commit.new.site) table
+  -- and nothing was taken at its end
+  kept : c.take_commit.new.replay ≡ c.commits.replay
+  kept = c.in_ok-next.ensures.end (subst IsNone (sym c.in-None.is) refl)
+
+  state_is : held_state table ≡ c.commits.replay.state
+  state_is = c.in_ok-replayed_table-in-None.ensures.state ∙ ap (λ (r : Seen). r.state) kept
+
+  pub within : IsWithin table
+  within =
+      opened_within c.args.number c.commits.gate c.args.def.now c.commits.replay.state table c.in_ok-replayed_table-in-None.ensures.table c.in_ok-replayed_table-in-None.ensures.log state_is c.requires.columns
+      (subst (λ (n : ℕ). HasTaken c.commits.gate n c.commits.replay.state) c.commits.invariant.window c.commits.invariant.took)
+
+  pub opened : g.W.Site.tells → HasOpened c.args.number c.commits.gate c.args.def.now c.commits.replay.state (g.W.Site.state c.args.site.now) (g.W.Site.state c.take_commit.new.site) table
   opened tells =
       let S = g.W.Site in
       let log = log_of c.args.number in
-      let before = S.state c.args.site.now in
-      let mid = S.state c.commits.site in
+      let file = (S.state c.args.site.now log).bytes in
       let so_far = c.commits.invariant in
-      let file : (mid c.table_log-file.result).bytes ≡ begun (before log).bytes = ap (λ (f : FileId). (mid f).bytes) c.table_log-file.ensures ∙ ap (λ (s : FileState). s.bytes) (so_far.begun_now tells) in
+      let old = c.commits.replay in
+      let was_read : (S.state c.commits.site c.table_log-file.result).bytes ≡ begun file = ap (λ (f : FileId). (S.state c.commits.site f).bytes) c.table_log-file.ensures ∙ ap (λ (s : FileState). s.bytes) (so_far.begun_now tells) in
+      let read = subst (λ (read : Option ℕ). ReadsCommit c.commits.gate old.window old.state (begun file) read c.take_commit.new.replay.state) c.in-None.is
+      (subst (λ (bytes : List ℕ). ReadsCommit c.commits.gate old.window old.state bytes c.in_ok-next.field-0 c.take_commit.new.replay.state) was_read (c.in_ok-next.ensures.read tells)) in
       record {
-        log = c.at.ensures ∙ ap (λ (f : FileId). record { file = f; gate = c.commits.gate }) c.table_log-file.ensures;
+        is = c.in_ok-replayed_table-in-None.ensures.table;
+        log = c.in_ok-replayed_table-in-None.ensures.log;
+        state_is = state_is;
         begun_now = c.in_ok-next.ensures.files tells log ∙ so_far.begun_now tells;
         others = λ f apart. c.in_ok-next.ensures.files tells f ∙ so_far.others tells f apart;
-        read = so_far.read tells;
-        ended = log_ended c.commits.gate c.commits.next_part (mid c.table_log-file.result).bytes (begun (before log).bytes) c.in_ok-next.field-0 file c.in-None.is (c.in_ok-next.ensures.read tells);
+        read = subst (λ (n : ℕ). HasRead c.commits.gate n old.state (begun file)) so_far.window (so_far.read tells);
+        ended = read.0;
       }
+
+pub returns-in-None-clause-within : goal.returns-in-None-clause-within
+returns-in-None-clause-within g c = (within g (goal.at.returns-in-None-clause-within g c).In_ok-replayed_table-in-None, c.in_ok-replayed_table-in-None.ensures.table)
+
+pub returns-in-None-clause-placed : goal.returns-in-None-clause-placed
+returns-in-None-clause-placed g c = λ tells.
+    let S = g.W.Site in
+    let is = opened g (goal.at.returns-in-None-clause-placed g c).In_ok-replayed_table-in-None tells in
+    opened_placed c.args.number c.commits.gate c.args.def.now c.commits.replay.state (S.state c.args.site.now) (S.state c.take_commit.new.site) c.in_ok-replayed_table-in-None.field-0 is
 
 pub returns-in-None-clause-commits : goal.returns-in-None-clause-commits
 returns-in-None-clause-commits g c = λ tells.
-    let S = g.W.Site in
-    let before = S.state c.args.site.now in
-    let now = S.state c.read_commit.new.site in
-    let is = opened g c tells in
-    (is.read.commits, opened_commits c.commits.gate before now (table g c) is, opened_frames c.commits.gate before now (table g c) is)
+    let before = g.W.Site.state c.args.site.now in
+    let now = g.W.Site.state c.take_commit.new.site in
+    let table = c.in_ok-replayed_table-in-None.field-0 in
+    let is = opened g (goal.at.returns-in-None-clause-commits g c).In_ok-replayed_table-in-None tells in (
+      is.read.commits,
+      opened_commits c.args.number c.commits.gate c.args.def.now c.commits.replay.state before now table is,
+      opened_frames c.args.number c.commits.gate c.args.def.now c.commits.replay.state before now table is,
+    )
 
 pub returns-in-None-clause-book : goal.returns-in-None-clause-book
-returns-in-None-clause-book g c = λ tells book stood.
+returns-in-None-clause-book g c = λ tells.
     let S = g.W.Site in
-    opened_book c.commits.gate (S.state c.args.site.now) (S.state c.read_commit.new.site) (table g c) (opened g c tells) book (rw (c.commits.invariant.kinds, c.commits.invariant.key) stood)
-
-pub returns-in-None-clause-during : goal.returns-in-None-clause-during
-returns-in-None-clause-during g c = λ tells payloads leaves.
-    let S = g.W.Site in
-    let log = log_of c.args.number in
-    let so_far = c.commits.invariant in
-    during_begun S.moment S.left_since S.state S.said log payloads c.args.site.now c.commits.site c.read_commit.new.site leaves (g.met.W.Site.reads c.args.site.now log)
-    (so_far.begun_now tells) (so_far.others tells) (so_far.said tells) (so_far.left tells payloads leaves) (c.in_ok-next.ensures.during tells)
+    opened_book c.args.number c.commits.gate c.args.def.now c.commits.replay.state (S.state c.args.site.now) (S.state c.take_commit.new.site) c.in_ok-replayed_table-in-None.field-0
+    (opened g (goal.at.returns-in-None-clause-book g c).In_ok-replayed_table-in-None tells)

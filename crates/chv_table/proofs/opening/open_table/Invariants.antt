@@ -1,12 +1,12 @@
--- The commits of the parts below the next one are read, and their frames have 42 bytes each.
-use Rattle.std.proofs.Common.{◌≡◌, ◌+◌, ◌-◌, ◌*◌, ◌≤◌, List, ℕ}
+-- The commits so far are taken, and they are those that were read.
+use Rattle.std.proofs.Common.{◌≡◌, ◌+◌, ◌-◌, ◌*◌, ◌≤◌, List, ℕ, length}
 use Rattle.chv_site.specs.Files.{settled, KeepsOthers}
 use Rattle.chv_site.specs.During.{During}
+use Rattle.chv_commit.specs.Replays.{MAX_ENTRIES}
 use Rattle.chv_gate.specs.GateLog.{HasFrames, begun}
 use Rattle.chv_gate.specs.Crashes.{IsLeftWith, LeavesFrames}
-use Rattle.chv_catalog.specs.Schemas.{kinds_of}
-use Rattle.chv_table.specs.Commits.{MAX_ENTRIES}
-use Rattle.chv_table.proofs.OpeningLemmas.{log_of, HasRead}
+use Rattle.chv_table.proofs.LogDamageLemmas.{log_of}
+use Rattle.chv_table.proofs.OpeningLemmas.{HasTaken, HasRead}
 use Rattle.chv_table.proofs.opening.open_table.Given as goal
 
 abbrev pub invariant-commits : goal.invariant-commits
@@ -16,12 +16,10 @@ invariant-commits g l =
     let now = S.state l.site in
     let log = log_of l.number in
     record {
-      kinds : l.kinds ≡ kinds_of l.def;
-      key : l.key ≡ l.def.key;
-      first : 8 ≤ l.next_part;
-      bounded : l.next_part ≤ 8 + MAX_ENTRIES;
-      gate : l.gate ≡ 42 * (l.next_part - 8);
-      read : S.tells → HasRead l.gate l.next_part (begun (before log).bytes);
+      window : l.replay.window ≡ l.def.window;
+      ids : length l.replay.state.ids ≤ l.replay.window;
+      took : HasTaken l.gate l.replay.window l.replay.state;
+      read : S.tells → HasRead l.gate l.replay.window l.replay.state (begun (before log).bytes);
       begun_now : S.tells → now log ≡ settled (begun (before log).bytes);
       others : S.tells → KeepsOthers log before now;
       said : S.tells → S.said l.site ≡ S.said l.fn.site;
@@ -31,4 +29,4 @@ invariant-commits g l =
     }
 
 abbrev pub decreases-commits : goal.decreases-commits
-decreases-commits g l = 8 + MAX_ENTRIES - l.next_part
+decreases-commits g l = 9 + 2 * MAX_ENTRIES - l.replay.state.next_part

@@ -1,6 +1,7 @@
--- What ends the reading of the parts ends that of the rows.
+-- The rows of all parts have the normal form of all rows; and what ends the reading of the parts ends that of the rows.
 use Rattle.std.proofs.Common.{◌≡◌, ◌∙◌, Err, sym, ap}
 use Rattle.std.proofs.lemmas.Result.{err_from_is_err_and}
+use Rattle.chv_part.proofs.BookRowLemmas.{rows_of_parts-normal_form}
 use Rattle.chv_table.specs.declared.fault.TableFault.{TableFault}
 use Rattle.chv_table.proofs.table.Table.rows.Goals as goal
 
@@ -9,3 +10,9 @@ returns-in_err-rows-clause-damaged g c = λ tells damage is.
     let p = err_from_is_err_and c.from_residual.result c.from_residual.ensures.1 in
     let same : p.0 ≡ TableFault.Damaged damage = cc (sym p.1 ∙ is) in
     c.in_err-rows.ensures.damaged tells damage (ap Err (sym p.2 ∙ same))
+
+pub returns-clause-rows : goal.returns-clause-rows
+returns-clause-rows g c = λ tells book held.
+    let table = c.args.self.now in
+    rw (c.in_ok-normal.ensures, c.of_items.ensures, c.in_ok-rows.ensures.rows tells book held)
+    (rows_of_parts-normal_form table.key book table.layout.items held.lawful.runs held.describes.layout)

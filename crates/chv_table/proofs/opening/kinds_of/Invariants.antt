@@ -1,6 +1,0 @@
--- The kinds of the columns so far.
-use Rattle.std.proofs.Common.{◌≡◌, map, take}
-use Rattle.chv_table.proofs.opening.kinds_of.Given as goal
-
-abbrev pub invariant-loop-column : goal.invariant-loop-column
-invariant-loop-column l = l.kinds ≡ map (λ column. column.kind) (take l.column-index l.column-items)
