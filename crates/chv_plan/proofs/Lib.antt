@@ -1,4 +1,7 @@
 pub mod BlockLemmas
+pub mod FeedLemmas
+pub mod HeldLemmas
+pub mod JoinLemmas
 pub mod LiteralLemmas
 pub mod PlaceLemmas
 pub mod PlanLemmas

@@ -1,18 +1,25 @@
 -- What an INSERT brings, step by step.
-use Rattle.std.proofs.Common.{◌≡◌, ◌≤◌, ◌+◌, ◌-◌, Bool, true, false, ℕ, List, length, Option, Some, None, option_map, Result, Ok, Err, nat_lt, slice_get, refl, sym, ◌∙◌, arith, rules, tests}
+use Rattle.std.proofs.Common.{◌≡◌, ◌≤◌, ◌<◌, ◌+◌, ◌-◌, ◌^◌, Bool, true, false, ℕ, List, [], ◌∷◌, length, Option, Some, None, option_map, Result, Ok, Err, nat_lt, slice_get, refl, sym, ap, ◌∙◌, arith, rules, tests}
+use Rattle.std.specs.List.{All}
+use Rattle.std.proofs.lemmas.Bool.Decides.{nat_tests}
 use Rattle.chv_ast.specs.declared.expr.Literal.{Literal}
 use Rattle.chv_ast.specs.declared.refusal.Refusal.{Refusal}
 use Rattle.chv_ast.specs.declared.refusal.Refusal.TheVariants.{UnknownTable, UnknownColumn, NameTaken, TypeMismatch, LimitPassed}
 use Rattle.chv_ast.specs.declared.statement.Settings.{Settings}
 use Rattle.chv_ast.specs.declared.statement.Statement.TheVariants.{Insert}
+use Rattle.chv_block.specs.Blocks.{blocks_of}
+use Rattle.chv_block.specs.declared.squasher.Sizes.{Sizes}
 use Rattle.chv_catalog.specs.Schemas.{kinds_of, names_of, place_of}
 use Rattle.chv_catalog.specs.declared.table_def.TableDef.{TableDef}
 use Rattle.chv_define.specs.Definitions.{refuse_if, and_then, or_refuse}
-use Rattle.chv_part.specs.Books.{entry_of, MAX_ROWS}
+use Rattle.chv_part.specs.Books.{Names, MAX_ROWS}
 use Rattle.chv_types.specs.declared.kind.Kind.{Kind}
-use Rattle.chv_plan.specs.Blocks.{Brings}
+use Rattle.chv_types.specs.declared.value.Value.{Value}
+use Rattle.chv_plan.proofs.HeldLemmas.{held-tables, held-count}
+use Rattle.chv_plan.proofs.JoinLemmas.{length-AreBlocks, AreBlocks-more}
+use Rattle.chv_plan.specs.Blocks.{AreBlocks, HoldsAll, Brings}
 use Rattle.chv_plan.specs.Places.{filled_places}
-use Rattle.chv_plan.specs.Plans.{Delivery, Delivers, planned, planned_for, rows_for, table_of}
+use Rattle.chv_plan.specs.Plans.{Delivery, DeliversAll, deliveries_of, is_long, planned, planned_for, rows_for, sized_rows, sizes_for, source_of, table_of}
 use Rattle.chv_plan.specs.declared.delivery.Delivery.{Delivery as Held}
 
 -- checks that refuse nothing leave what follows them
@@ -24,19 +31,43 @@ passed true repeated state places found rest e = cc
 passed false true state places found rest e = cc
 passed false false true places found rest e = cc
 
--- a row that is refused is so behind these checks
-pub rows_refused_for : (table : ℕ) (def : TableDef) (listed : Option (List (List ℕ))) (rows lists : List (List Literal)) (places held : List ℕ) (kinds : List Kind) (refusal : Refusal)
-    → filled_places def.columns listed ≡ Ok places → length rows ≤ MAX_ROWS → kinds ≡ kinds_of def → held ≡ places → lists ≡ rows → rows_for kinds held lists ≡ Err refusal
-    → planned_for table def listed rows ≡ Err refusal
-rows_refused_for table def listed rows lists places held kinds refusal filled most kinds_are held_are lists_are read =
-    let some : nat_lt MAX_ROWS (length rows) ≡ false = search (rules, tests) in
-    let refused : rows_for (kinds_of def) places rows ≡ Err refusal = cc in
-    passed _ _ _ _ places
-    (λ (filled : List ℕ).
-    refuse_if (nat_lt MAX_ROWS (length rows)) LimitPassed
-    (and_then (rows_for (kinds_of def) filled rows) (λ block. Ok (record { table = table; entry = entry_of (kinds_of def) def.key block }))))
-    filled
-    ∙ rw (some, refused) refl
+-- what follows the checks of columns
+abbrev behind : ℕ → TableDef → Settings → List (List Literal) → List ℕ → Result (List Delivery) Refusal
+behind table def settings rows places =
+    and_then (sizes_for settings) (λ sizes.
+    refuse_if (is_long settings.token) LimitPassed
+    (refuse_if (nat_lt MAX_ROWS (length rows)) LimitPassed
+    (and_then (rows_for (kinds_of def) places rows) (λ written.
+    Ok (deliveries_of table def settings.token 0 (blocks_of sizes (sized_rows (kinds_of def) written)))))))
+
+planned_for-behind : (table : ℕ) (def : TableDef) (listed : Option (List (List ℕ))) (settings : Settings) (rows : List (List Literal)) (places : List ℕ) → filled_places def.columns listed ≡ Ok places
+    → planned_for table def listed settings rows ≡ behind table def settings rows places
+planned_for-behind table def listed settings rows places filled = passed _ _ _ _ places (behind table def settings rows) filled
+
+-- a size that is refused is so behind the checks of columns
+pub sizes_refused_for : (table : ℕ) (def : TableDef) (listed : Option (List (List ℕ))) (settings : Settings) (rows : List (List Literal)) (places : List ℕ) (refusal : Refusal)
+    → filled_places def.columns listed ≡ Ok places → sizes_for settings ≡ Err refusal → planned_for table def listed settings rows ≡ Err refusal
+sizes_refused_for table def listed settings rows places refusal filled refused = planned_for-behind table def listed settings rows places filled ∙ rw refused refl
+
+-- rows that are written bring their blocks, and what is held is their entries
+pub Brings-blocks : (table : ℕ) (def : TableDef) (listed : Option (List (List ℕ))) (settings : Settings) (rows lists : List (List Literal)) (places filled : List ℕ) (kinds : List Kind) (sizes : Sizes)
+    (written : List (List Value)) (blocks : List (List (List Value))) (held : List Held)
+    → filled_places def.columns listed ≡ Ok places → sizes_for settings ≡ Ok sizes → is_long settings.token ≡ false → 1 ≤ length rows → length rows ≤ MAX_ROWS
+    → kinds ≡ kinds_of def → filled ≡ places → lists ≡ rows → rows_for kinds filled lists ≡ Ok written → blocks ≡ blocks_of sizes (sized_rows kinds written)
+    → AreBlocks kinds (length lists) blocks → (1 ≤ length lists → 1 ≤ length blocks) → HoldsAll table kinds def.key settings.token 0 blocks held
+    → Brings table def listed settings rows held
+Brings-blocks table def listed settings rows lists places filled kinds sizes written blocks held checked sized short some most kinds_are filled_are lists_are read is each there holds =
+    let few : nat_lt MAX_ROWS (length rows) ≡ false = search (rules, tests) in
+    let is_read : rows_for (kinds_of def) places rows ≡ Ok written = cc in
+    let count : length lists ≡ length rows = ap length lists_are in
+    record {
+      blocks = blocks;
+      planned = planned_for-behind table def listed settings rows places checked ∙ rw (sized, short, few, is_read, is, kinds_are) refl;
+      some = there (omega (arith, some, count));
+      each = AreBlocks-more (kinds_of def) (length lists) MAX_ROWS blocks (omega (arith, most, count)) (rw kinds_are at each);
+      short = short;
+      holds = rw kinds_are at holds;
+    }
 
 -- the table at a place, and its number
 abbrev table_at : List TableDef → Option ℕ → Result (ℕ × TableDef) Refusal
@@ -58,25 +89,67 @@ found_table tables name number def is stands = numbered tables (place_of name (n
 
 -- an INSERT brings what its rows bring to its table
 pub planned_there : (tables : List TableDef) (name : List ℕ) (columns : Option (List (List ℕ))) (settings : Settings) (rows : List (List Literal)) (number : ℕ) (def : TableDef)
-    → table_of tables name ≡ Ok (number, def) → planned tables (Insert name columns settings rows) ≡ planned_for number def columns rows
+    → table_of tables name ≡ Ok (number, def) → planned tables (Insert name columns settings rows) ≡ planned_for number def columns settings rows
 unfolding planned
 planned_there tables name columns settings rows number def found = rw found refl
 
--- a block that is brought is an entry of its table
-pub delivered : (tables : List TableDef) (columns : Option (List (List ℕ))) (rows : List (List Literal)) (number : ℕ) (def : TableDef) (held : Held) (wanted : Result Delivery Refusal)
-    → slice_get tables (number - 1) ≡ Some def → 1 ≤ number → wanted ≡ planned_for number def columns rows → Brings number def columns rows held
-    → (delivery : Delivery) × (wanted ≡ Ok delivery) × Delivers tables held delivery
-delivered tables columns rows number def held wanted stands first is brings = (
-  record { table = number; entry = entry_of (kinds_of def) def.key brings.block },
-  is ∙ brings.planned,
+most-255 : (n : ℕ) → nat_lt 255 n ≡ false → n ≤ 255
+most-255 n short = grind (arith, nat_tests)
+
+-- a block of an insert goes by what names it
+named : (kinds : List Kind) (token : Option (List ℕ)) (number : ℕ) (block : List (List Value)) → is_long token ≡ false → number < 2 ^ 20 → Names kinds block (source_of kinds token number block)
+named kinds None number block short within = refl
+named kinds (Some []) number block short within = refl
+named kinds (Some (byte ∷ token)) number block short within = (omega arith, most-255 (length (byte ∷ token)) short, within)
+
+-- what is held of blocks is that of their deliveries, each an entry of the table
+delivers_all : (tables : List TableDef) (number : ℕ) (def : TableDef) (token : Option (List ℕ)) (from most : ℕ) (blocks : List (List (List Value))) (held : List Held)
+    → slice_get tables (number - 1) ≡ Some def → 1 ≤ number → is_long token ≡ false → from + most ≤ MAX_ROWS → AreBlocks (kinds_of def) most blocks
+    → HoldsAll number (kinds_of def) def.key token from blocks held → DeliversAll tables held (deliveries_of number def token from blocks)
+delivers_all tables number def token from most [] [] stands first short room are holds = tt
+delivers_all tables number def token from most [] (one ∷ held) stands first short room are holds = holds
+delivers_all tables number def token from most (block ∷ blocks) [] stands first short room are holds = holds
+delivers_all tables number def token from most (block ∷ blocks) (one ∷ held) stands first short room are holds = (
   record {
     def = def;
     stands = stands;
     numbered = first;
-    table = brings.holds.table_is;
-    lawful = record { block = brings.block; kinds_fit = brings.kinds_fit; some = brings.some; most = brings.most; is = refl };
-    id = brings.holds.id;
-    rows = brings.holds.rows;
-    encoded = brings.holds.encoded;
+    table = holds.0.table_is;
+    lawful =
+        record {
+          source = source_of (kinds_of def) token from block;
+          block = block;
+          kinds_fit = are.0;
+          some = are.1;
+          most = omega (arith, are.2, room);
+          named = named (kinds_of def) token from block short (omega (arith, are.1, are.2, room));
+          is = refl;
+        };
+    id = holds.0.id;
+    rows = holds.0.rows;
+    encoded = holds.0.encoded;
   },
+  delivers_all tables number def token (from + 1) (most - length block) blocks held stands first short (omega (arith, are.1, are.2, room)) are.3 holds.1,
 )
+
+-- the blocks that are brought are entries of their table
+pub delivered : (tables : List TableDef) (columns : Option (List (List ℕ))) (settings : Settings) (rows : List (List Literal)) (number : ℕ) (def : TableDef) (held : List Held) (wanted : Result (List Delivery) Refusal)
+    → slice_get tables (number - 1) ≡ Some def → 1 ≤ number → wanted ≡ planned_for number def columns settings rows → Brings number def columns settings rows held
+    → (plan : List Delivery) × (wanted ≡ Ok plan) × DeliversAll tables held plan
+delivered tables columns settings rows number def held wanted stands first is brings = (
+  deliveries_of number def settings.token 0 brings.blocks,
+  is ∙ brings.planned,
+  delivers_all tables number def settings.token 0 MAX_ROWS brings.blocks held stands first brings.short (omega arith) brings.each brings.holds,
+)
+
+-- what is brought is for one table
+pub one_table-Brings : (table : ℕ) (def : TableDef) (listed : Option (List (List ℕ))) (settings : Settings) (rows : List (List Literal)) (held : List Held) → Brings table def listed settings rows held
+    → (number : ℕ) × All (λ (delivery : Held). delivery.table ≡ number) held
+one_table-Brings table def listed settings rows held brings = (table, held-tables table (kinds_of def) def.key settings.token 0 brings.blocks held brings.holds)
+
+-- and has one delivery at least
+pub count-Brings : (table : ℕ) (def : TableDef) (listed : Option (List (List ℕ))) (settings : Settings) (rows : List (List Literal)) (held : List Held) → Brings table def listed settings rows held
+    → (1 ≤ length held) × (length held ≤ MAX_ROWS)
+count-Brings table def listed settings rows held brings =
+    let count = held-count table (kinds_of def) def.key settings.token 0 brings.blocks held brings.holds in
+    (omega (arith, count, brings.some), omega (arith, count, length-AreBlocks (kinds_of def) MAX_ROWS brings.blocks brings.each))

@@ -1,5 +1,5 @@
 -- What an INSERT brings: docs/SQL.md, "INSERT".
-use Rattle.std.specs.Prelude.{ℕ, ◌≡◌, ◌+◌, ◌-◌, ◌≤◌, not, nat_eq, nat_lt, List, [], ◌∷◌, length, if◌then◌else◌, Option, None, Some, Result, Ok, Err, slice_get}
+use Rattle.std.specs.Prelude.{ℕ, Bool, false, ◌≡◌, ◌+◌, ◌-◌, ◌≤◌, ◌||◌, not, nat_eq, nat_lt, List, [], ◌∷◌, length, map, if◌then◌else◌, Option, None, Some, Result, Ok, Err, slice_get}
 use Rattle.std.specs.List.{filter_map, list_any}
 use Rattle.chv_ast.specs.declared.expr.Literal.{Literal}
 use Rattle.chv_ast.specs.declared.refusal.Refusal.{Refusal}
@@ -8,9 +8,14 @@ use Rattle.chv_ast.specs.declared.statement.Statement.{Statement}
 use Rattle.chv_ast.specs.declared.statement.Statement.TheVariants as statement
 use Rattle.chv_catalog.specs.Schemas.{names_of, place_of, columns_of, kinds_of}
 use Rattle.chv_catalog.specs.declared.table_def.TableDef.{TableDef}
-use Rattle.chv_define.specs.Definitions.{refuse_if, and_then, or_refuse, has_repeat, is_unknown, is_state, places_of}
+use Rattle.chv_ast.specs.declared.statement.Settings.{Settings}
+use Rattle.chv_block.specs.Blocks.{Sized, blocks_of}
+use Rattle.chv_block.specs.Spellings.{row_spelling, block_spelling}
+use Rattle.chv_block.specs.declared.squasher.Sizes.{Sizes}
+use Rattle.chv_define.specs.Definitions.{refuse_if, and_then, or_refuse, has_repeat, is_unknown, is_state, number_of, places_of}
 use Rattle.chv_part.specs.Books.{Entry, entry_of, IsEntry, MAX_ROWS}
 use Rattle.chv_part.specs.Parts.{part_file}
+use Rattle.chv_sip.specs.BlockIds.{SourceKey, Content, Token}
 use Rattle.chv_types.specs.Values.{plain_default}
 use Rattle.chv_types.specs.declared.kind.Kind.{Kind}
 use Rattle.chv_types.specs.declared.kind.Kind.TheVariants as kind
@@ -23,6 +28,41 @@ use Rattle.chv_plan.specs.declared.delivery.Delivery.{Delivery as Held}
 pub record Delivery : Type 0 where
   pub table : ℕ
   pub entry : Entry
+
+-- a number of a setting, from the least to the most that it may be, or its default
+abbrev pub setting_in : ℕ → ℕ → ℕ → Option (List ℕ) → Result ℕ Refusal
+setting_in least most otherwise None = Ok otherwise
+setting_in least most otherwise (Some digits) =
+    refuse_if (nat_lt (number_of digits) least || nat_lt most (number_of digits)) LimitPassed (Ok (number_of digits))
+
+-- how large the blocks of an insert are to be
+abbrev pub sizes_for : Settings → Result Sizes Refusal
+sizes_for settings =
+    and_then (setting_in 1 1048576 65536 settings.max_rows) (λ max_rows.
+    and_then (setting_in 0 1048576 65536 settings.min_rows) (λ min_rows.
+    and_then (setting_in 0 1073741824 16777216 settings.min_bytes) (λ min_bytes.
+    Ok (record { max_rows = max_rows; min_rows = min_rows; min_bytes = min_bytes }))))
+
+-- a token has 255 bytes at most
+abbrev pub is_long : Option (List ℕ) → Bool
+is_long None = false
+is_long (Some token) = nat_lt 255 (length token)
+
+-- what a block of this number in its insert goes by: the insert's token, of which the empty one is none, or its content
+abbrev pub source_of : List Kind → Option (List ℕ) → ℕ → List (List Value) → SourceKey
+source_of kinds None number block = Content (block_spelling kinds block)
+source_of kinds (Some []) number block = Content (block_spelling kinds block)
+source_of kinds (Some (byte ∷ token)) number block = Token (byte ∷ token) number
+
+-- blocks as deliveries to a table, numbered from this number on
+abbrev pub deliveries_of : ℕ → TableDef → Option (List ℕ) → ℕ → List (List (List Value)) → List Delivery
+deliveries_of table def token number [] = []
+deliveries_of table def token number (block ∷ blocks) =
+    record { table = table; entry = entry_of def.key (source_of (kinds_of def) token number block) block } ∷ deliveries_of table def token (number + 1) blocks
+
+-- rows, each with the number of its bytes
+abbrev pub sized_rows : List Kind → List (List Value) → List Sized
+sized_rows kinds = map (λ row. record { row = row; bytes = length (row_spelling kinds row) })
 
 -- the names of the columns that are filled: those that are listed, or all
 abbrev pub filled_names : List (List ℕ) → Option (List (List ℕ)) → List (List ℕ)
@@ -74,16 +114,18 @@ rows_for kinds places (literals ∷ rows) =
     and_then (row_for kinds places literals) (λ row. and_then (rows_for kinds places rows) (λ rest. Ok (row ∷ rest)))
 
 -- what rows for a table bring, or the first check that refuses them
-abbrev pub planned_for : ℕ → TableDef → Option (List (List ℕ)) → List (List Literal) → Result Delivery Refusal
-planned_for table def listed rows =
+abbrev pub planned_for : ℕ → TableDef → Option (List (List ℕ)) → Settings → List (List Literal) → Result (List Delivery) Refusal
+planned_for table def listed settings rows =
     let names = filled_names (columns_of def) listed in
     let places = places_of (columns_of def) names in
     refuse_if (list_any (is_unknown (columns_of def)) names) UnknownColumn
     (refuse_if (has_repeat names) NameTaken
     (refuse_if (list_any is_state (kinds_at (kinds_of def) places)) TypeMismatch
+    (and_then (sizes_for settings) (λ sizes.
+    refuse_if (is_long settings.token) LimitPassed
     (refuse_if (nat_lt MAX_ROWS (length rows)) LimitPassed
-    (and_then (rows_for (kinds_of def) places rows) (λ block.
-    Ok (record { table = table; entry = entry_of (kinds_of def) def.key block }))))))
+    (and_then (rows_for (kinds_of def) places rows) (λ written.
+    Ok (deliveries_of table def settings.token 0 (blocks_of sizes (sized_rows (kinds_of def) written))))))))))
 
 -- the table of a name, and its number
 abbrev pub table_of : List TableDef → List ℕ → Result (ℕ × TableDef) Refusal
@@ -91,10 +133,10 @@ table_of tables name =
     and_then (or_refuse UnknownTable (place_of name (names_of tables))) (λ place.
     and_then (or_refuse UnknownTable (slice_get tables place)) (λ def. Ok (place + 1, def)))
 
--- what an INSERT brings, or the first check that refuses it
-unfoldable pub planned : List TableDef → Statement → Result Delivery Refusal
+-- what an INSERT brings, in order, or the first check that refuses it
+unfoldable pub planned : List TableDef → Statement → Result (List Delivery) Refusal
 planned tables (statement.Insert table columns settings rows) =
-    and_then (table_of tables table) (λ found. planned_for found.0 found.1 columns rows)
+    and_then (table_of tables table) (λ found. planned_for found.0 found.1 columns settings rows)
 planned tables other = Err UnknownTable
 
 -- what is held of a delivery is that of an entry of its table
@@ -107,3 +149,10 @@ pub record Delivers (tables : List TableDef) (held : Held) (delivery : Delivery)
   pub id : held.id ≡ delivery.entry.id
   pub rows : held.rows ≡ length delivery.entry.rows
   pub encoded : held.encoded ≡ part_file (kinds_of def) delivery.entry.rows
+
+-- what is held of a plan is that of its deliveries, in order
+abbrev pub DeliversAll : List TableDef → List Held → List Delivery → Type 0
+DeliversAll tables [] [] = Unit {0}
+DeliversAll tables [] (delivery ∷ plan) = ⊥
+DeliversAll tables (held ∷ rest) [] = ⊥
+DeliversAll tables (held ∷ rest) (delivery ∷ plan) = Delivers tables held delivery × DeliversAll tables rest plan

@@ -1,4 +1,5 @@
-// Deliveries.
+// Plans.
+use chv_ast::Seq;
 use chv_sip::BlockId;
 use chv_types::Bytes;
 
@@ -13,4 +14,14 @@ pub struct Delivery {
     pub rows: u64,
     /// The file of the part that holds them.
     pub encoded: Bytes,
+}
+
+/// Deliveries in order.
+pub type Deliveries = Seq<Delivery>;
+
+/// What an INSERT brings.
+#[derive(Debug, Drop)]
+pub struct Plan {
+    /// Its blocks, in the order in which they are delivered. There is one at least.
+    pub deliveries: Deliveries,
 }

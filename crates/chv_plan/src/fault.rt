@@ -21,3 +21,11 @@ impl From<AllocError> for PlanFault {
         PlanFault::NoMemory
     }
 }
+
+impl From<Refusal> for PlanFault {
+    ghost from_gives = { λ refusal e. e ≡ fault.Refused refusal };
+
+    fn from(refusal: Refusal) -> Self {
+        PlanFault::Refused(refusal)
+    }
+}

@@ -1,53 +1,62 @@
 // INSERT.
-ghost use Rattle.std.specs.Prelude.{◌≡◌, ◌≤◌, ◌-◌, ℕ, length, Some, Ok, Err, IfOk, IfErr};
+ghost use Rattle.std.specs.Prelude.{◌≡◌, ◌≤◌, ℕ, List, false, length, Ok, Err, IfOk, IfErr, OnOk};
 ghost use Rattle.std.specs.List.{All};
 ghost use Rattle.chv_ast.specs.declared.refusal.Refusal.{Refusal};
 ghost use Rattle.chv_ast.specs.Formed.{WellFormed};
+ghost use Rattle.chv_block.specs.Blocks.{and_block, blocks_of};
 ghost use Rattle.chv_block.specs.Spellings.{AllAreOf, block_spelling};
 ghost use Rattle.chv_catalog.specs.Schemas.{kinds_of};
 ghost use Rattle.chv_part.specs.Books.{MAX_ROWS, entry_of};
-ghost use Rattle.chv_sip.specs.BlockIds.{id_of, content_key};
+ghost use Rattle.chv_sip.specs.BlockIds.{id_of, content_key, source_id};
 ghost use Rattle.chv_types.specs.Values.{IsPlain};
-ghost use Rattle.chv_plan.specs.Blocks.{Holds, Brings};
-ghost use Rattle.chv_plan.specs.Places.{kinds_in};
-ghost use Rattle.chv_plan.specs.Plans.{Delivery as Planned, Delivers, planned, planned_for};
+ghost use Rattle.chv_types.specs.declared.value.Value.{Value as SomeValue};
+ghost use Rattle.chv_plan.specs.Blocks.{Holds, HoldsAll, Brings, AreBlocks};
+ghost use Rattle.chv_plan.specs.Places.{ArePlaces};
+ghost use Rattle.chv_plan.specs.Plans.{Delivery as Planned, DeliversAll, planned, planned_for, rows_for, sized_rows, is_long, source_of};
 
 use crate::columns::filled_places;
-use crate::row::rows_for;
-use crate::{Delivery, PlanFault};
-use chv_ast::{LiteralRows, Names, Refusal, Statement};
-use chv_block::block_bytes;
+use crate::row::row_for;
+use crate::settings::{is_long, sizes_for};
+use crate::{Delivery, Plan, PlanFault};
+use chv_ast::{Literal, LiteralRows, Names, Quoted, Refusal, Seq, Settings, Statement};
+use chv_block::{Sizes, Squasher, block_bytes, row_size};
 use chv_catalog::{Schema, TableDef};
 use chv_merge::normal;
 use chv_part::encode_part;
-use chv_sip::{BlockId, id_of_content};
-use chv_types::{Block, Column, Kinds, Places};
+use chv_sip::{BlockId, id_of_content, id_of_token};
+use chv_types::{Block, Kind, Kinds, Places};
 use std::alloc::{AllocError, Global};
 
 // The most rows that an INSERT has.
 const MAX_ROWS: usize = 1048576;
 
-/// What an INSERT brings to its table, as a block that is ready to be delivered. It is refused by the first check that
+/// What an INSERT brings to its table: blocks that are ready to be delivered, in order. It is refused by the first check that
 /// holds; any other statement is refused too. So far no column of the tables is a state.
 #[tactic(auto, unfolding(crate::specs::Plans::planned))]
-pub fn plan_insert(
-    alloc: Global,
-    schema: &Schema,
-    insert: &Statement,
-) -> Result<Delivery, PlanFault>
+pub fn plan_insert(alloc: Global, schema: &Schema, insert: &Statement) -> Result<Plan, PlanFault>
     requires formed { WellFormed insert.now }
     requires plain { All (λ def. All IsPlain (kinds_of def)) schema.now.tables }
-    ensures planned { IfOk result (λ held. (delivery : Planned) × (planned schema.now.tables insert.now ≡ Ok delivery) × Delivers schema.now.tables held delivery) }
+    requires few { All (λ def. length (kinds_of def) ≤ 64) schema.now.tables }
+    ensures planned { IfOk result (λ held. (plan : List Planned) × (planned schema.now.tables insert.now ≡ Ok plan) × DeliversAll schema.now.tables held.deliveries plan) }
+    ensures one_table { IfOk result (λ held. (table : ℕ) × All (λ delivery. delivery.table ≡ table) held.deliveries) }
+    ensures count { IfOk result (λ held. (1 ≤ length held.deliveries) × (length held.deliveries ≤ MAX_ROWS)) }
     ensures refused { IfErr result (λ fault. (refusal : Refusal) → fault ≡ PlanFault.Refused refusal → planned schema.now.tables insert.now ≡ Err refusal) }
 {
     match insert {
         Statement::Insert {
             table,
             columns,
-            settings: _,
+            settings,
             rows,
         } => match schema.table(table.as_slice()) {
-            Some(number) => plan_for(alloc, number, schema.table_def(number), columns, rows),
+            Some(number) => plan_for(
+                alloc,
+                number,
+                schema.table_def(number),
+                columns,
+                settings,
+                rows,
+            ),
             None => Err(PlanFault::Refused(Refusal::UnknownTable)),
         },
         _ => Err(PlanFault::Refused(Refusal::UnknownTable)),
@@ -60,47 +69,107 @@ pub fn plan_for(
     table: u32,
     def: &TableDef,
     listed: &Option<Names>,
+    settings: &Settings,
     rows: &LiteralRows,
-) -> Result<Delivery, PlanFault>
+) -> Result<Plan, PlanFault>
     requires some { 1 ≤ length rows.now }
     requires plain { All IsPlain (kinds_of def.now) }
-    ensures planned { IfOk result (λ held. Brings table def.now listed.now rows.now held) }
-    ensures refused { IfErr result (λ fault. (refusal : Refusal) → fault ≡ PlanFault.Refused refusal → planned_for table def.now listed.now rows.now ≡ Err refusal) }
+    requires few { length (kinds_of def.now) ≤ 64 }
+    ensures planned { IfOk result (λ held. Brings table def.now listed.now settings.now rows.now held.deliveries) }
+    ensures refused { IfErr result (λ fault. (refusal : Refusal) → fault ≡ PlanFault.Refused refusal → planned_for table def.now listed.now settings.now rows.now ≡ Err refusal) }
 {
     let columns = def.columns.as_slice();
     let places = filled_places(alloc, columns, listed)?;
-    if rows.len() > MAX_ROWS {
+    let sizes = sizes_for(settings)?;
+    if is_long(&settings.token) || rows.len() > MAX_ROWS {
         return Err(PlanFault::Refused(Refusal::LimitPassed));
     }
-    let kinds = kinds_in(alloc, columns)?;
-    let block = rows_for(alloc, kinds.as_slice(), &places, rows.as_slice())?;
-    Ok(delivery_of(alloc, table, &kinds, &def.key, block)?)
+    let kinds = def.kinds(alloc)?;
+    let blocks = blocks_for(alloc, kinds.as_slice(), &places, sizes, rows.as_slice())?;
+    Ok(Plan {
+        deliveries: deliveries_of(alloc, table, &kinds, &def.key, &settings.token, blocks)?,
+    })
 }
 
-// The kinds of columns.
-fn kinds_in(alloc: Global, columns: &[Column]) -> Result<Kinds, AllocError>
-    ensures { IfOk result (λ kinds. kinds ≡ kinds_in columns.now) }
+// The blocks of the rows that lists of literals write, each at these places of columns of these kinds.
+fn blocks_for(
+    alloc: Global,
+    kinds: &[Kind],
+    places: &[usize],
+    sizes: Sizes,
+    rows: &[Seq<Literal>],
+) -> Result<Vec<Block>, PlanFault>
+    requires plain { All IsPlain kinds.now }
+    requires few { length kinds.now ≤ 64 }
+    requires places { ArePlaces (length kinds.now) places.now }
+    requires sizes { 1 ≤ sizes.max_rows }
+    ensures blocks { IfOk result (λ blocks. (written : List (List SomeValue)) × (rows_for kinds.now places.now rows.now ≡ Ok written)
+        × (blocks.items ≡ blocks_of sizes (sized_rows kinds.now written))) }
+    ensures each { IfOk result (λ blocks. AreBlocks kinds.now (length rows.now) blocks.items) }
+    ensures some { IfOk result (λ blocks. 1 ≤ length rows.now → 1 ≤ length blocks.items) }
+    ensures refused { IfErr result (λ fault. (refusal : Refusal) → fault ≡ PlanFault.Refused refusal → rows_for kinds.now places.now rows.now ≡ Err refusal) }
 {
-    let mut kinds = Vec::with_capacity(alloc, columns.len())?;
-    for column in columns {
-        kinds.push(column.kind)?;
+    let mut squasher = Squasher::new(alloc, sizes);
+    let mut blocks = Vec::new(alloc);
+    for literals in rows {
+        let row = row_for(alloc, kinds, places, literals.as_slice())?;
+        let size = row_size(kinds, &row);
+        put_block(&mut blocks, squasher.feed(alloc, row, size)?)?;
     }
-    Ok(Kinds::of_items(kinds))
+    put_block(&mut blocks, squasher.finish())?;
+    Ok(blocks)
 }
 
-// A block as a delivery to the table of a number.
+// Puts a block behind others, where there is one.
+fn put_block(blocks: &mut Vec<Block>, block: Option<Block>) -> Result<(), AllocError>
+    ensures { OnOk result (blocks.new.items ≡ and_block blocks.old.items block) }
+{
+    if let Some(block) = block {
+        blocks.push(block)?;
+    }
+    Ok(())
+}
+
+// Blocks as deliveries to the table of a number, in order.
+fn deliveries_of(
+    alloc: Global,
+    table: u32,
+    kinds: &Kinds,
+    key: &Places,
+    token: &Option<Quoted>,
+    blocks: Vec<Block>,
+) -> Result<Seq<Delivery>, AllocError>
+    requires plain { All IsPlain kinds.now }
+    requires blocks { All (AllAreOf kinds.now) blocks.items }
+    requires few { length blocks.items ≤ MAX_ROWS }
+    requires token { is_long token.now ≡ false }
+    ensures { IfOk result (λ held. HoldsAll table kinds.now key.now token.now 0 blocks.items held) }
+{
+    let mut deliveries = Vec::with_capacity(alloc, blocks.len())?;
+    let mut number = 0;
+    for block in blocks {
+        deliveries.push(delivery_of(alloc, table, kinds, key, token, number, block)?)?;
+        number += 1;
+    }
+    Ok(Seq::of_items(deliveries))
+}
+
+// A block of a number in its insert as a delivery to a table.
 fn delivery_of(
     alloc: Global,
     table: u32,
     kinds: &Kinds,
     key: &Places,
+    token: &Option<Quoted>,
+    number: u32,
     block: Block,
 ) -> Result<Delivery, AllocError>
     requires plain { All IsPlain kinds.now }
     requires rows { AllAreOf kinds.now block }
-    ensures { IfOk result (λ held. Holds table kinds.now (entry_of kinds.now key.now block) held) }
+    requires token { is_long token.now ≡ false }
+    ensures { IfOk result (λ held. Holds table kinds.now (entry_of key.now (source_of kinds.now token.now number block) block) held) }
 {
-    let id = content_id(alloc, kinds, &block)?;
+    let id = block_id(alloc, kinds, token, number, &block)?;
     let rows = normal(key, block)?;
     let encoded = encode_part(alloc, kinds, &rows)?;
     Ok(Delivery {
@@ -109,6 +178,26 @@ fn delivery_of(
         rows: rows.len() as u64,
         encoded,
     })
+}
+
+// The id of a block of a number in its insert: by the insert's token, of which the empty one is none, or by its content in
+// the order of arrival.
+fn block_id(
+    alloc: Global,
+    kinds: &Kinds,
+    token: &Option<Quoted>,
+    number: u32,
+    block: &Block,
+) -> Result<BlockId, AllocError>
+    requires plain { All IsPlain kinds.now }
+    requires rows { AllAreOf kinds.now block.now }
+    requires token { is_long token.now ≡ false }
+    ensures { IfOk result (λ id. id ≡ source_id (source_of kinds.now token.now number block.now)) }
+{
+    match token {
+        Some(token) if token.len() > 0 => Ok(id_of_token(token.as_slice(), number)),
+        _ => content_id(alloc, kinds, block),
+    }
 }
 
 // The id of a block by its content, in the order of arrival.

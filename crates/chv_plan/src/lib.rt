@@ -7,8 +7,9 @@ mod fault;
 mod insert;
 mod literal;
 mod row;
+mod settings;
 
-pub use delivery::Delivery;
+pub use delivery::{Deliveries, Delivery, Plan};
 pub use fault::PlanFault;
 pub use insert::plan_insert;
 

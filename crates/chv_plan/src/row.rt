@@ -3,9 +3,9 @@ ghost use Rattle.std.specs.Prelude.{◌≡◌, ◌<◌, length, map, Ok, Err, If
 ghost use Rattle.std.specs.List.{All};
 ghost use Rattle.chv_ast.specs.declared.refusal.Refusal.{Refusal};
 ghost use Rattle.chv_types.specs.Values.{IsPlain};
-ghost use Rattle.chv_block.specs.Spellings.{IsOf, AreOf, AllAreOf};
+ghost use Rattle.chv_block.specs.Spellings.{IsOf, AreOf};
 ghost use Rattle.chv_plan.specs.Places.{ArePlaces, written};
-ghost use Rattle.chv_plan.specs.Plans.{value_for, default_of, row_for, rows_for};
+ghost use Rattle.chv_plan.specs.Plans.{value_for, default_of, row_for};
 
 use crate::PlanFault;
 use crate::literal::literal_value;
@@ -13,29 +13,8 @@ use chv_ast::{Literal, Refusal, Seq};
 use chv_types::{Block, Kind, Row, Value, default_value};
 use std::alloc::{AllocError, Global};
 
-/// The rows that lists of literals write, each at these places of columns of these kinds.
-pub fn rows_for(
-    alloc: Global,
-    kinds: &[Kind],
-    places: &[usize],
-    rows: &[Seq<Literal>],
-) -> Result<Block, PlanFault>
-    requires plain { All IsPlain kinds.now }
-    requires places { ArePlaces (length kinds.now) places.now }
-    ensures rows { IfOk result (λ block. rows_for kinds.now places.now rows.now ≡ Ok block) }
-    ensures kinds { IfOk result (λ block. AllAreOf kinds.now block) }
-    ensures count { IfOk result (λ block. length block ≡ length rows.now) }
-    ensures refused { IfErr result (λ fault. (refusal : Refusal) → fault ≡ PlanFault.Refused refusal → rows_for kinds.now places.now rows.now ≡ Err refusal) }
-{
-    let mut block = Block::of_items(Vec::with_capacity(alloc, rows.len())?);
-    for literals in rows {
-        block.push(row_for(alloc, kinds, places, literals.as_slice())?)?;
-    }
-    Ok(block)
-}
-
-// The row that literals write at these places. Each other column has its default.
-fn row_for(
+/// The row that literals write at these places. Each other column has its default.
+pub fn row_for(
     alloc: Global,
     kinds: &[Kind],
     places: &[usize],
