@@ -1,5 +1,5 @@
 -- What holds of a statement that is accepted, and of its definition.
-use Rattle.std.proofs.Common.{◌≡◌, ◌≢◌, ℕ, ◌<◌, ◌≤◌, Bool, true, false, ◌&&◌, List, [], ◌∷◌, length, Option, None, Some, Ok, refl, arith}
+use Rattle.std.proofs.Common.{◌≡◌, ◌≢◌, ℕ, ◌<◌, ◌≤◌, Bool, true, false, ◌&&◌, List, [], ◌∷◌, length, Option, None, Ok, refl, arith}
 use Rattle.std.specs.List.{All, list_all}
 use Rattle.std.proofs.lemmas.Bool.{false≢true}
 use Rattle.std.proofs.lemmas.List.{length-map}
@@ -53,14 +53,13 @@ no_table tables s def defines other = let none = defined-other tables s other in
 
 built_table : (tables : List TableDef) (s : Statement) (def : TableDef) → is_built s ≡ true → defined tables s ≡ Ok def → Built s def
 unfolding is_built
-built_table tables (CreateTable name columns MergeTree key None) def built defines =
-    record { kinds = plain tables name columns MergeTree key None def defines (plain_words columns built); some = some_text name columns MergeTree key None }
-built_table tables (CreateTable name columns MergeTree key (Some window)) def built defines = absurd (false≢true built)
+built_table tables (CreateTable name columns MergeTree key window) def built defines =
+    record { kinds = plain tables name columns MergeTree key window def defines (plain_words columns built); some = some_text name columns MergeTree key window }
 built_table tables (CreateTable name columns AggregatingMergeTree key window) def built defines = absurd (false≢true built)
 built_table tables (CreateView name target select) def built defines = absurd (false≢true built)
 built_table tables (Insert table columns settings rows) def built defines = absurd (no_table tables (Insert table columns settings rows) def defines (λ n c e k w is. cc))
 built_table tables (Query select) def built defines = absurd (no_table tables (Query select) def defines (λ n c e k w is. cc))
-built_table tables (ShowParts table) def built defines = absurd (false≢true built)
+built_table tables (ShowParts table) def built defines = absurd (no_table tables (ShowParts table) def defines (λ n c e k w is. cc))
 built_table tables (Optimize table) def built defines = absurd (false≢true built)
 built_table tables FlushQueue def built defines = absurd (false≢true built)
 

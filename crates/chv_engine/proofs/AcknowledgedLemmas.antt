@@ -1,7 +1,7 @@
 -- What is acknowledged stays so, and is held.
-use Rattle.std.proofs.Common.{◌≡◌, ◌⊎◌, inl, inr, ℕ, ◌+◌, ◌≤◌, List, [], ◌∷◌, ◌++◌, length, take, Bool, true, false, Option, None, Some, Ok, Err, IfOk, All, Contains, refl, sym, ap, subst, ◌∙◌, arith, append_assoc, if◌then◌else◌, ◌==◌, eqb-true, eq-eqb}
-use Rattle.std.proofs.lemmas.List.{append-nil, length-append, length-map, length-take}
-use Rattle.std.proofs.lemmas.List.Elements.{All-nil, All-cons, All-append, All-push, All-weaker, Contains-append_left, Contains-push}
+use Rattle.std.proofs.Common.{◌≡◌, ◌⊎◌, inl, inr, ℕ, ◌+◌, ◌-◌, ◌≤◌, List, [], ◌∷◌, ◌++◌, length, map, take, drop, slice_get, Bool, true, false, Option, None, Some, Ok, Err, IfOk, All, Contains, refl, sym, ap, subst, ◌∙◌, arith, append_assoc, if◌then◌else◌, ◌==◌, eqb-true, eq-eqb}
+use Rattle.std.proofs.lemmas.List.{append-nil, length-append, length-map, length-take, map_push, take-append-drop}
+use Rattle.std.proofs.lemmas.List.Elements.{All-nil, All-cons, All-head, All-tail, All-append, All-push, All-map, All-weaker, All-contains, All-contains_itself, Contains-append_left, Contains-append_right, Contains-push}
 use Rattle.std.specs.Prelude.{Result}
 use Rattle.chv_ast.specs.declared.refusal.Refusal.{Refusal}
 use Rattle.chv_ast.specs.declared.refusal.Refusal.TheVariants.{Syntax, LimitPassed, NotBuilt}
@@ -9,15 +9,16 @@ use Rattle.chv_ast.specs.declared.statement.Statement.{Statement}
 use Rattle.chv_ast.specs.declared.statement.Statement.TheVariants as statement
 use Rattle.chv_catalog.specs.declared.table_def.TableDef.{TableDef}
 use Rattle.chv_define.specs.Definitions.{defined}
-use Rattle.chv_part.specs.Books.{Book, Entry, no_book, arrived}
+use Rattle.chv_part.specs.Books.{Book, Entry, no_book, ids_of, is_recent, appended}
+use Rattle.chv_part.proofs.BookLemmas.{is_recent-Decides}
 use Rattle.chv_plan.specs.Plans.{Delivery, planned, table_of}
 use Rattle.chv_site.specs.Files.{IsFrontOf}
-use Rattle.chv_text.specs.Replies.{ok_line, refused_line}
-use Rattle.chv_engine.specs.Acknowledged.{IsAcknowledged, IsDelivered, IsHeld}
+use Rattle.chv_text.specs.Replies.{ok_line, insert_line, refused_line}
+use Rattle.chv_engine.specs.Acknowledged.{IsAcknowledged, IsDelivered, IsHeld, IsWhole, acknowledged_by, entries_brought, IdsNameOne}
 use Rattle.chv_engine.specs.Crashes.{text_of, says_next}
 use Rattle.chv_engine.specs.Forms.{is_built}
 use Rattle.chv_engine.specs.Histories.{Accepted, History, tables_of, with_table}
-use Rattle.chv_engine.specs.Runs.{Event, Created, Committed, Replied, Plan, Moment, delivered, happen, behind, refusal, create_events, insert_into, has_room, insert_events, shown_text, select_events, built_events, statement_events, request_events, run_events}
+use Rattle.chv_engine.specs.Runs.{Event, Created, Committed, Replied, Plan, Moment, begins, delivered, happen, behind, refusal, create_events, window_in, is_skipped, delivery_events, insert_into, has_room, insert_events, shown_text, select_events, parts_text, parts_events, built_events, statement_events, request_events, run_events}
 use Rattle.chv_engine.specs.Script.{Request}
 use Rattle.chv_engine.proofs.LookupLemmas.{planned-within}
 
@@ -116,14 +117,25 @@ pub holding_at : (done left : List Event) (m : Moment) → HoldingWhile (done ++
 holding_at [] left m holding = holding_first left m holding
 holding_at (d ∷ done) left m holding = holding_at done left (happen d m) holding.1
 
--- an entry in a table's book stays there where the book is another's, or grows
-other_book : (b : Bool) (new old : Book) (entry : Entry) → (b ≡ true → ⊥) → Contains old.entries entry → Contains (if b then new else old).entries entry
+-- an id that is among the last of a table is one of its entries'
+recent_held : (window : ℕ) (entry : Entry) (book : Book) → is_recent window entry.id book ≡ true → Contains (ids_of book) entry.id
+recent_held window entry book recent =
+    let older = length (ids_of book) - window in
+    subst (λ ids. Contains ids entry.id) (take-append-drop older (ids_of book))
+    (Contains-append_right (take older (ids_of book)) (drop older (ids_of book)) entry.id ((is_recent-Decides window entry.id book).0 recent))
+
+-- an id in a table's book stays there where the book is another's, or grows
+other_book : (b : Bool) (new old : Book) (entry : Entry) → (b ≡ true → ⊥) → Contains (ids_of old) entry.id → Contains (ids_of (if b then new else old)) entry.id
 other_book true new old entry other is = absurd (other refl)
 other_book false new old entry other is = is
 
-grown_book : (b : Bool) (new old : Book) (entry : Entry) → (b ≡ true → Contains new.entries entry) → Contains old.entries entry → Contains (if b then new else old).entries entry
+grown_book : (b : Bool) (new old : Book) (entry : Entry) → (b ≡ true → Contains (ids_of new) entry.id) → Contains (ids_of old) entry.id → Contains (ids_of (if b then new else old)) entry.id
 grown_book true new old entry grown is = grown refl
 grown_book false new old entry grown is = is
+
+-- the ids of a book with one more entry
+ids_of-appended : (entry : Entry) (book : Book) → ids_of (appended entry book) ≡ ids_of book ++ entry.id ∷ []
+ids_of-appended entry book = map_push (λ (e : Entry). e.id) book.entries entry
 
 -- a delivery stays delivered as a table is made
 delivered_created : (accepted : Accepted) (history : History) (d : Delivery) → IsDelivered history d → IsDelivered (with_table accepted history) d
@@ -132,26 +144,49 @@ delivered_created accepted history d is =
     record {
       counted = is.counted;
       stands = omega (arith, is.stands, long);
-      entry = other_book (d.table == length (history.schema ++ accepted ∷ [])) no_book (history.books d.table) d.entry
-          (λ same. absurd (omega (arith, is.stands, long, eqb-true d.table (length (history.schema ++ accepted ∷ [])) same))) is.entry;
+      id = other_book (d.table == length (history.schema ++ accepted ∷ [])) no_book (history.books d.table) d.entry
+          (λ same. absurd (omega (arith, is.stands, long, eqb-true d.table (length (history.schema ++ accepted ∷ [])) same))) is.id;
     }
 
--- and as an entry arrives
+-- and as an entry is written
 delivered_committed : (new : Delivery) (history : History) (d : Delivery) → IsDelivered history d → IsDelivered (delivered new history) d
 delivered_committed new history d is = record {
   counted = is.counted;
   stands = is.stands;
-  entry = grown_book (d.table == new.table) (arrived new.entry (history.books new.table)) (history.books d.table) d.entry
-      (λ same. Contains-append_left (history.books new.table).entries (new.entry ∷ []) d.entry
-      (subst (λ (n : ℕ). Contains (history.books n).entries d.entry) (eqb-true d.table new.table same) is.entry)) is.entry;
+  id = grown_book (d.table == new.table) (appended new.entry (history.books new.table)) (history.books d.table) d.entry
+      (λ same.
+      subst (λ ids. Contains ids d.entry.id) (sym (ids_of-appended new.entry (history.books new.table)))
+      (Contains-append_left (ids_of (history.books new.table)) (new.entry.id ∷ []) d.entry.id
+      (subst (λ (n : ℕ). Contains (ids_of (history.books n)) d.entry.id) (eqb-true d.table new.table same) is.id))) is.id;
 }
 
--- the entry that arrives is delivered
-delivered_new : (new : Delivery) (history : History) → 1 ≤ new.table → new.table ≤ length history.schema → IsDelivered (delivered new history) new
-delivered_new new history counted stands = record {
-  counted = counted;
-  stands = stands;
-  entry = rw (eq-eqb new.table new.table refl) (Contains-push (history.books new.table).entries new.entry);
+-- and whatever happens
+delivered_behind : (events : List Event) (m : Moment) (d : Delivery) → IsDelivered m.history d → IsDelivered (behind events m).history d
+delivered_behind [] m d is = is
+delivered_behind (Created accepted ∷ events) m d is = delivered_behind events (happen (Created accepted) m) d (delivered_created accepted m.history d is)
+delivered_behind (Committed new ∷ events) m d is = delivered_behind events (happen (Committed new) m) d (delivered_committed new m.history d is)
+delivered_behind (Replied text plans refuses ∷ events) m d is = delivered_behind events (happen (Replied text plans refuses) m) d is
+
+-- a delivery goes to a table of the history
+abbrev pub IsKnown : History → Delivery → Type 0
+IsKnown history d = (1 ≤ d.table) × (d.table ≤ length history.schema)
+
+-- the entry that is written is delivered
+delivered_new : (new : Delivery) (history : History) → IsKnown history new → IsDelivered (delivered new history) new
+delivered_new new history known =
+    let book = history.books new.table in
+    record {
+      counted = known.0;
+      stands = known.1;
+      id = rw (eq-eqb new.table new.table refl) (subst (λ ids. Contains ids new.entry.id) (sym (ids_of-appended new.entry book)) (Contains-push (ids_of book) new.entry.id));
+    }
+
+-- and one that is skipped is delivered already
+delivered_skipped : (d : Delivery) (history : History) → IsKnown history d → is_skipped d history ≡ true → IsDelivered history d
+delivered_skipped d history known skipped = record {
+  counted = known.0;
+  stands = known.1;
+  id = recent_held (window_in (slice_get (tables_of history.schema) (d.table - 1))) d.entry (history.books d.table) skipped;
 }
 
 -- a history that keeps each delivery holds what was held
@@ -169,31 +204,65 @@ holding_create client asked (Ok def) m held =
     (held, holding_reply (ok_line client) false (happen (Created accepted) m) (kept m.history (with_table accepted m.history) m.acknowledged (delivered_created accepted m.history) held))
 holding_create client asked (Err refuses) m held = holding_reply (refused_line client refuses) true m held
 
--- an insert is acknowledged behind its commit
-holding_insert_into : (client : ℕ) (d : Delivery) (m : Moment) → 1 ≤ d.table → d.table ≤ length m.history.schema → Holding m → HoldingWhile (insert_into client d) m
-holding_insert_into client d m counted stands held =
-    let new = delivered d m.history in
-    let all : All (IsHeld new) m.acknowledged = kept m.history new m.acknowledged (delivered_committed d m.history) held in
-    let one : IsHeld new (d ∷ []) = All-cons (IsDelivered new) d [] (delivered_new d m.history counted stands) (All-nil (IsDelivered new)) in
-    (held, (all, All-push (IsHeld new) m.acknowledged (d ∷ []) all one))
+-- deliveries are made one after the other
+holding_deliveries : (plan : List Delivery) (m : Moment) → Holding m → HoldingWhile (delivery_events plan m.history) m
+holding_deliveries [] m held = held
+holding_deliveries (d ∷ plan) m held =
+    elim (is_skipped d m.history) as (λ skipped. HoldingWhile (if skipped then delivery_events plan m.history else Committed d ∷ delivery_events plan (delivered d m.history)) m) [
+      | true ↦ holding_deliveries plan m held
+      | false ↦ (held, holding_deliveries plan (happen (Committed d) m) (kept m.history (delivered d m.history) m.acknowledged (delivered_committed d m.history) held))
+    ]
 
-holding_insert_room : (client : ℕ) (room : Bool) (d : Delivery) (m : Moment) → 1 ≤ d.table → d.table ≤ length m.history.schema → Holding m
-    → HoldingWhile (if room then insert_into client d else refusal client LimitPassed) m
-holding_insert_room client true d m counted stands held = holding_insert_into client d m counted stands held
-holding_insert_room client false d m counted stands held = holding_reply (refused_line client LimitPassed) true m held
+-- behind them all are delivered
+all_delivered : (plan : List Delivery) (m : Moment) → All (IsKnown m.history) plan → IsHeld (behind (delivery_events plan m.history) m).history plan
+all_delivered [] m known = All-nil (IsDelivered m.history)
+all_delivered (d ∷ plan) m known =
+    let one : IsKnown m.history d = All-head (IsKnown m.history) d plan known in
+    let rest : All (IsKnown m.history) plan = All-tail (IsKnown m.history) d plan known in
+    elim (is_skipped d m.history)
+    as (λ skipped. is_skipped d m.history ≡ skipped
+    → IsHeld (behind (if skipped then delivery_events plan m.history else Committed d ∷ delivery_events plan (delivered d m.history)) m).history (d ∷ plan)) [
+      | true ↦ λ skipped.
+          let events = delivery_events plan m.history in
+          All-cons (IsDelivered (behind events m).history) d plan (delivered_behind events m d (delivered_skipped d m.history one skipped)) (all_delivered plan m rest)
+      | false ↦ λ skipped.
+          let next = happen (Committed d) m in
+          let events = delivery_events plan next.history in
+          All-cons (IsDelivered (behind events next).history) d plan (delivered_behind events next d (delivered_new d m.history one)) (all_delivered plan next rest)
+    ] refl
 
-holding_insert : (client : ℕ) (brings : Result Delivery Refusal) (m : Moment) → IfOk brings (λ d. (1 ≤ d.table) × (d.table ≤ length m.history.schema)) → Holding m → HoldingWhile (insert_events client brings m.history) m
-holding_insert client (Ok d) m known held = holding_insert_room client (has_room (m.history.books d.table)) d m known.0 known.1 held
+-- an insert is acknowledged behind its deliveries
+holding_insert_into : (client : ℕ) (plan : Plan) (m : Moment) → All (IsKnown m.history) plan → Holding m → HoldingWhile (insert_into client plan m.history) m
+holding_insert_into client plan m known held =
+    let written = delivery_events plan m.history in
+    let last = behind written m in
+    let made : HoldingWhile written m = holding_deliveries plan m held in
+    let before : Holding last = holding_last written m made in
+    holding-append written (Replied (insert_line client (length written) (length plan - length written)) (plan ∷ []) false ∷ []) m made
+    (before, All-push (IsHeld last.history) last.acknowledged plan before (all_delivered plan m known))
+
+holding_insert_room : (client : ℕ) (room : Bool) (plan : Plan) (m : Moment) → All (IsKnown m.history) plan → Holding m
+    → HoldingWhile (if room then insert_into client plan m.history else refusal client LimitPassed) m
+holding_insert_room client true plan m known held = holding_insert_into client plan m known held
+holding_insert_room client false plan m known held = holding_reply (refused_line client LimitPassed) true m held
+
+holding_insert : (client : ℕ) (brings : Result Plan Refusal) (m : Moment) → IfOk brings (All (IsKnown m.history)) → Holding m → HoldingWhile (insert_events client brings m.history) m
+holding_insert client (Ok plan) m known held = holding_insert_room client (has_room plan m.history) plan m known held
 holding_insert client (Err refuses) m known held = holding_reply (refused_line client refuses) true m held
 
 holding_select : (client : ℕ) (table : Result (ℕ × TableDef) Refusal) (m : Moment) → Holding m → HoldingWhile (select_events client table m.history) m
 holding_select client (Ok found) m held = holding_reply (shown_text client found.1.key (m.history.books found.0)) false m held
 holding_select client (Err refuses) m held = holding_reply (refused_line client refuses) true m held
 
--- what is planned is for a table of the history
-planned_known : (asked : Statement) (schema : List Accepted) → IfOk (planned (tables_of schema) asked) (λ d. (1 ≤ d.table) × (d.table ≤ length schema))
-planned_known asked schema =
-    subst (λ (n : ℕ). IfOk (planned (tables_of schema) asked) (λ d. (1 ≤ d.table) × (d.table ≤ n))) (length-map schema (λ (accepted : Accepted). accepted.def)) (planned-within (tables_of schema) asked)
+holding_parts : (client : ℕ) (table : Result (ℕ × TableDef) Refusal) (m : Moment) → Holding m → HoldingWhile (parts_events client table m.history) m
+holding_parts client (Ok found) m held = holding_reply (parts_text client found.1.key (m.history.books found.0)) false m held
+holding_parts client (Err refuses) m held = holding_reply (refused_line client refuses) true m held
+
+-- what is planned is for tables of the history
+planned_known : (asked : Statement) (history : History) → IfOk (planned (tables_of history.schema) asked) (All (IsKnown history))
+planned_known asked history =
+    subst (λ (n : ℕ). IfOk (planned (tables_of history.schema) asked) (All (λ (d : Delivery). (1 ≤ d.table) × (d.table ≤ n)))) (length-map history.schema (λ (accepted : Accepted). accepted.def))
+    (planned-within (tables_of history.schema) asked)
 
 holding_built : (client : ℕ) (asked : Statement) (m : Moment) → Holding m → HoldingWhile (built_events client asked m.history) m
 holding_built client (statement.CreateTable name columns engine key window) m held =
@@ -201,10 +270,10 @@ holding_built client (statement.CreateTable name columns engine key window) m he
     holding_create client create (defined (tables_of m.history.schema) create) m held
 holding_built client (statement.Insert table columns settings rows) m held =
     let insert = statement.Insert table columns settings rows in
-    holding_insert client (planned (tables_of m.history.schema) insert) m (planned_known insert m.history.schema) held
+    holding_insert client (planned (tables_of m.history.schema) insert) m (planned_known insert m.history) held
 holding_built client (statement.Query query) m held = holding_select client (table_of (tables_of m.history.schema) query.table) m held
 holding_built client (statement.CreateView name target query) m held = holding_reply (refused_line client NotBuilt) true m held
-holding_built client (statement.ShowParts table) m held = holding_reply (refused_line client NotBuilt) true m held
+holding_built client (statement.ShowParts table) m held = holding_parts client (table_of (tables_of m.history.schema) table) m held
 holding_built client (statement.Optimize table) m held = holding_reply (refused_line client NotBuilt) true m held
 holding_built client statement.FlushQueue m held = holding_reply (refused_line client NotBuilt) true m held
 
@@ -231,3 +300,58 @@ holding_behind requests m done left held split = holding_at done left m (subst (
 -- nothing is acknowledged yet
 pub holding_none : (m : Moment) → m.acknowledged ≡ [] → Holding m
 holding_none m none = subst (All (IsHeld m.history)) (sym none) (All-nil (IsHeld m.history))
+
+-- the image of a list's element is in the list's image, and what is there is one's image
+Contains-from_map : {X Y : Type 0} (f : X → Y) (xs : List X) (y : Y) → Contains (map f xs) y → (x : X) × Contains xs x × (f x ≡ y)
+Contains-from_map {X} {Y} f xs y is =
+    All-contains (λ (z : Y). (x : X) × Contains xs x × (f x ≡ z)) (map f xs) y
+    (All-map (λ (z : Y). (x : X) × Contains xs x × (f x ≡ z)) f xs (All-weaker (Contains xs) (λ (x : X). (x' : X) × Contains xs x' × (f x' ≡ f x)) (λ x in'. (x, in', refl)) xs (All-contains_itself xs))) is
+
+-- what a new table's book has instead
+book_created : (b : Bool) (old : Book) (brought : List Entry) (e : Entry) → Contains ((if b then no_book else old).entries ++ brought) e → Contains (old.entries ++ brought) e
+book_created true old brought e is = Contains-append_right old.entries brought e is
+book_created false old brought e is = is
+
+-- what is written
+book_committed : (b : Bool) (table : ℕ) (d : Delivery) (books : ℕ → Book) (brought : List Entry) (e : Entry) → (b ≡ true → d.table ≡ table)
+    → Contains ((if b then appended d.entry (books d.table) else books table).entries ++ brought) e → Contains ((books table).entries ++ (if b then d.entry ∷ brought else brought)) e
+book_committed true table d books brought e same is =
+    subst (λ (n : ℕ). Contains ((books n).entries ++ d.entry ∷ brought) e) (same refl) (subst (λ (l : List Entry). Contains l e) (append_assoc (books d.table).entries (d.entry ∷ []) brought) is)
+book_committed false table d books brought e same is = is
+
+-- the entries of a table's book are those that it had and those that events brought
+book_behind : (table : ℕ) (events : List Event) (m : Moment) (e : Entry) → Contains ((behind events m).history.books table).entries e
+    → Contains ((m.history.books table).entries ++ entries_brought table events) e
+book_behind table [] m e is = Contains-append_left (m.history.books table).entries [] e is
+book_behind table (Created accepted ∷ events) m e is =
+    book_created (table == length (m.history.schema ++ accepted ∷ [])) (m.history.books table) (entries_brought table events) e (book_behind table events (happen (Created accepted) m) e is)
+book_behind table (Committed d ∷ events) m e is =
+    book_committed (table == d.table) table d m.history.books (entries_brought table events) e (λ same. sym (eqb-true table d.table same)) (book_behind table events (happen (Committed d) m) e is)
+book_behind table (Replied text plans refuses ∷ events) m e is = book_behind table events (happen (Replied text plans refuses) m) e is
+
+-- the inserts that are acknowledged were so, or are by events
+acknowledged_behind : (events : List Event) (m : Moment) → (behind events m).acknowledged ≡ m.acknowledged ++ acknowledged_by events
+acknowledged_behind [] m = sym (append-nil m.acknowledged)
+acknowledged_behind (Created accepted ∷ events) m = acknowledged_behind events (happen (Created accepted) m)
+acknowledged_behind (Committed d ∷ events) m = acknowledged_behind events (happen (Committed d) m)
+acknowledged_behind (Replied text plans refuses ∷ events) m =
+    acknowledged_behind events (happen (Replied text plans refuses) m) ∙ append_assoc m.acknowledged plans (acknowledged_by events)
+
+-- where ids name one entry each, what is held stands whole
+pub whole_behind : (events : List Event) (history : History) → IdsNameOne history events → Holding (behind events (begins history))
+    → All (IsWhole (behind events (begins history)).history) (behind events (begins history)).acknowledged
+whole_behind events history one held =
+    let m = behind events (begins history) in
+    let by : m.acknowledged ≡ acknowledged_by events = acknowledged_behind events (begins history) in
+    All-weaker (Contains m.acknowledged) (IsWhole m.history)
+    (λ plan acknowledged.
+    let delivers : IsHeld m.history plan = All-contains (IsHeld m.history) m.acknowledged plan held acknowledged in
+    let entry_of : Delivery → Type 0 = λ d. Contains (m.history.books d.table).entries d.entry in
+    All-weaker (Contains plan) entry_of
+    (λ d among.
+    let is : IsDelivered m.history d = All-contains (IsDelivered m.history) plan d delivers among in
+    let found = Contains-from_map (λ (e : Entry). e.id) (m.history.books d.table).entries d.entry.id is.id in
+    let same : found.0 ≡ d.entry = one plan d found.0 (subst (λ (plans : List Plan). Contains plans plan) by acknowledged) among (book_behind d.table events (begins history) found.0 found.1) found.2 in
+    subst (λ (e : Entry). Contains (m.history.books d.table).entries e) same found.1)
+    plan (All-contains_itself plan))
+    m.acknowledged (All-contains_itself m.acknowledged)

@@ -1,11 +1,11 @@
 -- What a crash while a table is made leaves of the store, and what the store holds once it is made.
 use Rattle.std.proofs.Common.{◌≡◌, ◌≢◌, ◌⊎◌, inl, inr, ℕ, ◌+◌, ◌<◌, ◌≤◌, List, [], ◌∷◌, ◌++◌, length, map, slice_get, Some, Bool, true, false, cond, refl, sym, ap, subst, ◌∙◌, arith, length-append}
+use Rattle.std.proofs.Math.Seq.{drop-nil}
 use Rattle.std.proofs.lemmas.Bool.{cases_eq}
 use Rattle.std.proofs.lemmas.List.{length-map, map-append}
 use Rattle.std.proofs.lemmas.List.Elements.{All-nil, All-push}
 use Rattle.std.specs.List.{All}
 use Rattle.std.proofs.lemmas.Option.{slice_get_within}
-use Rattle.chv_catalog.specs.Schemas.{kinds_of}
 use Rattle.chv_catalog.specs.declared.table_def.TableDef.{TableDef}
 use Rattle.chv_site.specs.declared.file_id.FileId.{FileId}
 use Rattle.chv_site.specs.Files.{FileState, settled}
@@ -15,9 +15,12 @@ use Rattle.chv_site.proofs.Moments.{started, weakened, goes_on}
 use Rattle.chv_gate.specs.Crashes.{AsImages, IsLeftWith, HasFramesOrMore}
 use Rattle.chv_gate.specs.GateLog.{HasFrames, IsPayload, IsReady, begun, frame_of, is_torn}
 use Rattle.chv_gate.proofs.GateLogLemmas.{begun_ready}
-use Rattle.chv_part.specs.Books.{Book, IsEntry, no_book}
-use Rattle.chv_table.specs.Books.{TableStands}
-use Rattle.chv_table.specs.Tables.{HoldsBook}
+use Rattle.chv_part.specs.Books.{Book, no_book}
+use Rattle.chv_part.proofs.BookLemmas.{IsLawfulBook-no_book}
+use Rattle.chv_part.specs.Standing.{TableStands}
+use Rattle.chv_commit.specs.Commits.{IsCommit}
+use Rattle.chv_commit.specs.Replays.{no_state}
+use Rattle.chv_table.specs.Tables.{form_of, HoldsBook}
 use Rattle.chv_table.specs.Tables.{IsPlaced as IsTablePlaced}
 use Rattle.chv_table.specs.declared.table.Table.{Table}
 use Rattle.chv_engine.specs.Crashes.{EitherStands}
@@ -39,11 +42,16 @@ begun_short bytes short = begun_by bytes (is_torn bytes) short
 
 -- a new log that is begun has no frame
 new_stands : (def : TableDef) (image : Image) (number : ℕ) (bytes : List ℕ) → length bytes ≤ 1 → IsFileImage (settled (begun bytes)) (image (record { table = number; part = 0 }))
-    → TableStands image number (kinds_of def) def.key no_book
+    → TableStands image number (form_of def) no_book
 new_stands def image number bytes short is = record {
-  lawful = record { entries = All-nil (IsEntry (kinds_of def) def.key); bounded = omega arith; layout = refl };
+  lawful = IsLawfulBook-no_book (form_of def);
+  commits = [];
+  right = All-nil IsCommit;
   log = ready_left 0 [] (settled (begun bytes)) (image (record { table = number; part = 0 })) (begun_ready bytes short) is;
-  parts = tt;
+  state = no_state;
+  replays = refl;
+  describes = record { entries = refl; ids = sym (drop-nil _); layout = refl };
+  parts = All-nil _;
 }
 
 -- two logs of different tables are different files
@@ -146,15 +154,15 @@ module _ (store : Store) (before : FileId → FileState) (history : History) (ac
 
     -- what stands for each table, the new one's being last
     made_table : (image : Image) → AsImages store.catalog.file between image → (place : ℕ) (each : Accepted) → slice_get (history.schema ++ accepted ∷ []) place ≡ Some each
-        → TableStands image (place + 1) (kinds_of each.def) each.def.key (new.books (place + 1))
-    made_table image others place each stands = elim (slice_get-push history.schema accepted each place stands) as (λ _. TableStands image (place + 1) (kinds_of each.def) each.def.key (new.books (place + 1))) [
-      | inl old ↦ subst (λ (b : Book). TableStands image (place + 1) (kinds_of each.def) each.def.key b) (sym (old_book (place + 1) (λ same. omega (arith, same, old.0, number_is))))
+        → TableStands image (place + 1) (form_of each.def) (new.books (place + 1))
+    made_table image others place each stands = elim (slice_get-push history.schema accepted each place stands) as (λ _. TableStands image (place + 1) (form_of each.def) (new.books (place + 1))) [
+      | inl old ↦ subst (λ (b : Book). TableStands image (place + 1) (form_of each.def) b) (sym (old_book (place + 1) (λ same. omega (arith, same, old.0, number_is))))
           (table_stands store before image history place each within held old.1 (λ f same. old_tables image others f (omega (arith, same)) (omega (arith, same, old.0, number_is))))
       | inr last ↦
           let one : number ≡ place + 1 = omega (arith, last.0, number_is) in
-          subst (λ (n : ℕ). TableStands image n (kinds_of each.def) each.def.key (new.books n)) one
-          (subst (λ (b : Book). TableStands image number (kinds_of each.def) each.def.key b) (sym new_book)
-          (subst (λ (a : Accepted). TableStands image number (kinds_of a.def) a.def.key no_book) last.1 (new_stands accepted.def image number (before log).bytes short (log_left image others))))
+          subst (λ (n : ℕ). TableStands image n (form_of each.def) (new.books n)) one
+          (subst (λ (b : Book). TableStands image number (form_of each.def) b) (sym new_book)
+          (subst (λ (a : Accepted). TableStands image number (form_of a.def) no_book) last.1 (new_stands accepted.def image number (before log).bytes short (log_left image others))))
     ]
 
     -- the store stands for the history with the table where its text is in the catalog

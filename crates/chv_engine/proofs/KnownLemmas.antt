@@ -15,7 +15,7 @@ use Rattle.chv_plan.specs.Plans.{planned, table_of}
 use Rattle.chv_engine.specs.Damage.{Shows}
 use Rattle.chv_engine.specs.Forms.{is_built}
 use Rattle.chv_engine.specs.Histories.{History, tables_of}
-use Rattle.chv_engine.specs.Runs.{refusal, create_events, insert_events, select_events, built_events, known_events}
+use Rattle.chv_engine.specs.Runs.{refusal, create_events, insert_events, select_events, parts_events, built_events, known_events}
 
 pub known_unbuilt : (client : ℕ) (asked : Statement) (history : History) → is_built asked ≡ false → known_events client asked history ≡ refusal client NotBuilt
 known_unbuilt client asked history unbuilt = ap (λ (b : Bool). if b then built_events client asked history else refusal client NotBuilt) unbuilt
@@ -37,19 +37,23 @@ pub known_query : (client : ℕ) (asked : Statement) (history : History) (query 
     → known_events client asked history ≡ select_events client (table_of (tables_of history.schema) query.table) history
 known_query client asked history query built is = known_built client asked history built ∙ ap (λ (s : Statement). built_events client s history) is
 
+pub known_parts : (client : ℕ) (asked : Statement) (history : History) (table : List ℕ) → is_built asked ≡ true → asked ≡ statement.ShowParts table
+    → known_events client asked history ≡ parts_events client (table_of (tables_of history.schema) table) history
+known_parts client asked history table built is = known_built client asked history built ∙ ap (λ (s : Statement). built_events client s history) is
+
 -- a statement of another form is not built
 pub built_form : (asked : Statement) → is_built asked ≡ true
     → ((name : List ℕ) (columns : List ColumnDef) (engine : EngineWord) (key : List (List ℕ)) (window : Option (List ℕ)) → asked ≢ statement.CreateTable name columns engine key window)
     → ((table : List ℕ) (columns : Option (List (List ℕ))) (settings : Settings) (rows : List (List Literal)) → asked ≢ statement.Insert table columns settings rows)
-    → ((query : Select) → asked ≢ statement.Query query) → ⊥
+    → ((query : Select) → asked ≢ statement.Query query) → ((table : List ℕ) → asked ≢ statement.ShowParts table) → ⊥
 unfolding is_built
-built_form (statement.CreateTable name columns engine key window) built create insert query = create name columns engine key window refl
-built_form (statement.Insert table columns settings rows) built create insert query = insert table columns settings rows refl
-built_form (statement.Query asked) built create insert query = query asked refl
-built_form (statement.CreateView name target asked) built create insert query = false≢true built
-built_form (statement.ShowParts table) built create insert query = false≢true built
-built_form (statement.Optimize table) built create insert query = false≢true built
-built_form statement.FlushQueue built create insert query = false≢true built
+built_form (statement.CreateTable name columns engine key window) built create insert query parts = create name columns engine key window refl
+built_form (statement.Insert table columns settings rows) built create insert query parts = insert table columns settings rows refl
+built_form (statement.Query asked) built create insert query parts = query asked refl
+built_form (statement.ShowParts table) built create insert query parts = parts table refl
+built_form (statement.CreateView name target asked) built create insert query parts = false≢true built
+built_form (statement.Optimize table) built create insert query parts = false≢true built
+built_form statement.FlushQueue built create insert query parts = false≢true built
 
 -- what is shown is a query, and it is built
 pub one_query : (a b : Select) → statement.Query a ≡ statement.Query b → a ≡ b
@@ -61,3 +65,7 @@ one_statement a b same = cc
 pub shows_built : (asked : Statement) (tables : List TableDef) (table : ℕ) (def : TableDef) → Shows (Some asked) tables table def → is_built asked ≡ true
 unfolding is_built
 shows_built asked tables table def shows = ap is_built (one_statement asked (statement.Query shows.query) shows.is) ∙ shows.whole
+
+-- what shows all rows is a query
+pub shows_query : (asked : Statement) (tables : List TableDef) (table : ℕ) (def : TableDef) (name : List ℕ) → asked ≡ statement.ShowParts name → Shows (Some asked) tables table def → ⊥
+shows_query asked tables table def name is shows = absurd (cc (sym is ∙ one_statement asked (statement.Query shows.query) shows.is))

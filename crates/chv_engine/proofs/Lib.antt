@@ -1,9 +1,9 @@
 pub mod AcceptedLemmas
 pub mod AcknowledgedLemmas
-pub mod BlockLemmas
 pub mod CatalogLemmas
 pub mod CreateLemmas
 pub mod DefineLemmas
+pub mod DeliveryLemmas
 pub mod EachTableLemmas
 pub mod HistoryLemmas
 pub mod InsertLemmas
@@ -15,9 +15,11 @@ pub mod OpenedLemmas
 pub mod OpeningLemmas
 pub mod OrderLemmas
 pub mod PlaceLemmas
+pub mod PlanLemmas
 pub mod PullLemmas
 pub mod ReadingLemmas
 pub mod RefusalLemmas
+pub mod ReserveLemmas
 pub mod ResultLemmas
 pub mod RunLemmas
 pub mod SchemaLemmas

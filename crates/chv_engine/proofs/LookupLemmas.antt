@@ -1,18 +1,21 @@
 -- Which table a name names, and that what is planned is for one that stands.
 use Rattle.std.proofs.Common.{◌≡◌, ℕ, zero, suc, ◌+◌, ◌-◌, ◌<◌, ◌≤◌, List, [], ◌∷◌, length, Bool, true, false, Option, None, Some, Ok, Err, IfOk, slice_get, option_map, refl, subst, arith}
 use Rattle.std.specs.Prelude.{Result, nat_lt}
-use Rattle.std.specs.List.{list_any}
+use Rattle.std.specs.List.{All, list_any}
+use Rattle.std.proofs.lemmas.List.Elements.{All-cons, All-nil, All-weaker}
 use Rattle.chv_ast.specs.declared.expr.Literal.{Literal}
 use Rattle.chv_ast.specs.declared.refusal.Refusal.{Refusal}
 use Rattle.chv_ast.specs.declared.refusal.Refusal.TheVariants.{UnknownTable, UnknownColumn, NameTaken, TypeMismatch, LimitPassed}
+use Rattle.chv_ast.specs.declared.statement.Settings.{Settings}
 use Rattle.chv_ast.specs.declared.statement.Statement.{Statement}
 use Rattle.chv_ast.specs.declared.statement.Statement.TheVariants as statement
 use Rattle.chv_catalog.specs.Schemas.{names_of, place_of, columns_of, kinds_of}
 use Rattle.chv_catalog.specs.declared.table_def.TableDef.{TableDef}
 use Rattle.chv_catalog.proofs.SchemaLemmas.{place_of-within, length-names_of}
 use Rattle.chv_define.specs.Definitions.{refuse_if, and_then, has_repeat, is_unknown, is_state, places_of}
-use Rattle.chv_part.specs.Books.{Entry, entry_of, MAX_ROWS}
-use Rattle.chv_plan.specs.Plans.{Delivery, filled_names, kinds_at, rows_for, planned, planned_for, table_of}
+use Rattle.chv_part.specs.Books.{MAX_ROWS}
+use Rattle.chv_plan.specs.Plans.{Delivery, deliveries_of, filled_names, is_long, kinds_at, planned, planned_for, rows_for, sizes_for, table_of}
+use Rattle.chv_types.specs.declared.value.Value.{Value}
 
 -- the table of a name, by its number
 pub record IsNamed (tables : List TableDef) (name : List ℕ) (number : ℕ) : Type 0 where
@@ -22,7 +25,8 @@ pub record IsNamed (tables : List TableDef) (name : List ℕ) (number : ℕ) : T
   pub first : 1 ≤ number
   pub last : number ≤ length tables
 
-table_at : (tables : List TableDef) (place : ℕ) → place < length tables → (def : TableDef) × (slice_get tables place ≡ Some def)
+-- a table stands at each place within
+pub table_at : (tables : List TableDef) (place : ℕ) → place < length tables → (def : TableDef) × (slice_get tables place ≡ Some def)
 table_at [] place below = absurd (omega (arith, below))
 table_at (def ∷ defs) zero below = (def, refl)
 table_at (def ∷ defs) (suc place) below = table_at defs place (omega arith)
@@ -64,22 +68,32 @@ if_ok-and_then : {A B : Type 0} (r : Result A Refusal) (rest : A → Result B Re
 if_ok-and_then (Ok a) rest P Q holds then = then a holds
 if_ok-and_then (Err refusal) rest P Q holds then = tt
 
--- what passes all checks is delivered to the table
-checked-table : {A : Type 0} (unknown twice state many : Bool) (rows : Result A Refusal) (entry : A → Entry) (table : ℕ)
-    → IfOk {T = Delivery} (refuse_if unknown UnknownColumn (refuse_if twice NameTaken (refuse_if state TypeMismatch (refuse_if many LimitPassed (and_then rows (λ block. Ok (record { table = table; entry = entry block }))))))) (λ d. d.table ≡ table)
-checked-table true twice state many rows entry table = tt
-checked-table false true state many rows entry table = tt
-checked-table false false true many rows entry table = tt
-checked-table false false false true rows entry table = tt
-checked-table false false false false (Ok block) entry table = refl
-checked-table false false false false (Err refusal) entry table = tt
+-- what passes all checks is planned
+checked-plan : {A S : Type 0} (unknown twice state long many : Bool) (sizes : Result S Refusal) (rows : Result A Refusal) (plan : S → A → List Delivery) (P : List Delivery → Type 0) → ((s : S) (a : A) → P (plan s a))
+    → IfOk (refuse_if unknown UnknownColumn (refuse_if twice NameTaken (refuse_if state TypeMismatch (and_then sizes (λ s. refuse_if long LimitPassed (refuse_if many LimitPassed (and_then rows (λ a. Ok (plan s a))))))))) P
+checked-plan true twice state long many sizes rows plan P so = tt
+checked-plan false true state long many sizes rows plan P so = tt
+checked-plan false false true long many sizes rows plan P so = tt
+checked-plan false false false long many (Err refusal) rows plan P so = tt
+checked-plan false false false true many (Ok s) rows plan P so = tt
+checked-plan false false false false true (Ok s) rows plan P so = tt
+checked-plan false false false false false (Ok s) (Err refusal) plan P so = tt
+checked-plan false false false false false (Ok s) (Ok a) plan P so = so s a
 
-planned_for-table : (table : ℕ) (def : TableDef) (listed : Option (List (List ℕ))) (rows : List (List Literal)) → IfOk (planned_for table def listed rows) (λ d. d.table ≡ table)
-planned_for-table table def listed rows =
+-- an insert's blocks are delivered to its table
+deliveries_of-table : (table : ℕ) (def : TableDef) (token : Option (List ℕ)) (number : ℕ) (blocks : List (List (List Value))) → All (λ (d : Delivery). d.table ≡ table) (deliveries_of table def token number blocks)
+deliveries_of-table table def token number [] = All-nil (λ (d : Delivery). d.table ≡ table)
+deliveries_of-table table def token number (block ∷ blocks) =
+    All-cons (λ (d : Delivery). d.table ≡ table) _ (deliveries_of table def token (number + 1) blocks) refl (deliveries_of-table table def token (number + 1) blocks)
+
+-- so is what an insert into a table brings
+planned_for-table : (table : ℕ) (def : TableDef) (listed : Option (List (List ℕ))) (settings : Settings) (rows : List (List Literal)) → IfOk (planned_for table def listed settings rows) (λ plan. All (λ (d : Delivery). d.table ≡ table) plan)
+planned_for-table table def listed settings rows =
     let names = filled_names (columns_of def) listed in
     let places = places_of (columns_of def) names in
-    checked-table (list_any (is_unknown (columns_of def)) names) (has_repeat names) (list_any is_state (kinds_at (kinds_of def) places)) (nat_lt MAX_ROWS (length rows)) (rows_for (kinds_of def) places rows)
-    (entry_of (kinds_of def) def.key) table
+    checked-plan (list_any (is_unknown (columns_of def)) names) (has_repeat names) (list_any is_state (kinds_at (kinds_of def) places)) (is_long settings.token) (nat_lt MAX_ROWS (length rows)) (sizes_for settings)
+    (rows_for (kinds_of def) places rows) (λ sizes written. deliveries_of table def settings.token 0 _) (λ plan. All (λ (d : Delivery). d.table ≡ table) plan)
+    (λ sizes written. deliveries_of-table table def settings.token 0 _)
 
 -- the number of a table that is found is one of the tables
 table_of-within : (tables : List TableDef) (name : List ℕ) → IfOk (table_of tables name) (λ found. (1 ≤ found.0) × (found.0 ≤ length tables))
@@ -89,15 +103,16 @@ table_of-within tables name = by (place_of name (names_of tables)) refl
     by None found = rw found tt
     by (Some place) found = let named = named_at tables name place found in rw named.is (named.first, named.last)
 
--- a delivery that is planned has a table
-pub planned-within : (tables : List TableDef) (asked : Statement) → IfOk (planned tables asked) (λ d. (1 ≤ d.table) × (d.table ≤ length tables))
+-- each delivery that is planned has a table
+pub planned-within : (tables : List TableDef) (asked : Statement) → IfOk (planned tables asked) (λ plan. All (λ (d : Delivery). (1 ≤ d.table) × (d.table ≤ length tables)) plan)
 unfolding planned
 planned-within tables (statement.Insert table columns settings rows) =
-    if_ok-and_then (table_of tables table) _ (λ found. (1 ≤ found.0) × (found.0 ≤ length tables)) (λ (d : Delivery). (1 ≤ d.table) × (d.table ≤ length tables)) (table_of-within tables table)
-    (λ found known. weaker (planned_for found.0 found.1 columns rows) found.0 known (planned_for-table found.0 found.1 columns rows))
+    if_ok-and_then (table_of tables table) _ (λ found. (1 ≤ found.0) × (found.0 ≤ length tables)) (λ (plan : List Delivery). All (λ (d : Delivery). (1 ≤ d.table) × (d.table ≤ length tables)) plan) (table_of-within tables table)
+    (λ found known. weaker (planned_for found.0 found.1 columns settings rows) found.0 known (planned_for-table found.0 found.1 columns settings rows))
   where
-    weaker : (r : Result Delivery Refusal) (number : ℕ) → (1 ≤ number) × (number ≤ length tables) → IfOk r (λ d. d.table ≡ number) → IfOk r (λ d. (1 ≤ d.table) × (d.table ≤ length tables))
-    weaker (Ok d) number known same = (omega (arith, known.0, same), omega (arith, known.1, same))
+    weaker : (r : Result (List Delivery) Refusal) (number : ℕ) → (1 ≤ number) × (number ≤ length tables) → IfOk r (λ plan. All (λ (d : Delivery). d.table ≡ number) plan)
+        → IfOk r (λ plan. All (λ (d : Delivery). (1 ≤ d.table) × (d.table ≤ length tables)) plan)
+    weaker (Ok plan) number known same = All-weaker (λ (d : Delivery). d.table ≡ number) (λ (d : Delivery). (1 ≤ d.table) × (d.table ≤ length tables)) (λ d is. (omega (arith, known.0, is), omega (arith, known.1, is))) plan same
     weaker (Err refusal) number known same = tt
 planned-within tables (statement.CreateTable name columns engine key window) = tt
 planned-within tables (statement.CreateView name target query) = tt

@@ -1,7 +1,9 @@
 -- What is shown of a table, and where damage of a part is met.
 use Rattle.std.proofs.Common.{◌≡◌, ℕ, List, [], ◌++◌, length, map, Bool, Ok, Err, OnOk, IsErr, IsErrOf, refl, sym, ap, subst, ◌∙◌}
 use Rattle.std.specs.Prelude.{Result}
+use Rattle.std.proofs.lemmas.List.Elements.{All-weaker}
 use Rattle.chv_catalog.specs.declared.table_def.TableDef.{TableDef}
+use Rattle.chv_commit.specs.declared.part_row.PartRow.{PartRow}
 use Rattle.chv_gate.proofs.GateLogLemmas.{unique}
 use Rattle.chv_merge.specs.NormalForms.{normal_form}
 use Rattle.chv_part.specs.Books.{Book, rows_in}
@@ -31,15 +33,18 @@ unfolding answer_of
 shown_text-rows client key book rows same = ap (λ (l : List (List Value)). rows_text (normal_form [] l) ++ rows_line client (length (normal_form [] l))) same
 
 -- damage of a part goes by what the files hold
-pub part_damage_kept : (number : ℕ) (kinds : List Kind) (next : ℕ) (old new : FileId → List ℕ) (damage : Damage) → ((f : FileId) → new f ≡ old f) → IsPartDamage number kinds next old damage
-    → IsPartDamage number kinds next new damage
-part_damage_kept number kinds next old new damage kept is = record {
-  part = is.part;
-  low = is.low;
-  live = is.live;
-  earlier = λ p low below. subst (IsWhole kinds) (sym (kept (record { table = number; part = p }))) (is.earlier p low below);
-  is = subst (λ (file : List ℕ). IsDamageOfPart number kinds is.part file damage) (sym (kept (record { table = number; part = is.part }))) is.is;
-}
+pub part_damage_kept : (number : ℕ) (kinds : List Kind) (layout : List PartRow) (old new : FileId → List ℕ) (damage : Damage) → ((f : FileId) → new f ≡ old f) → IsPartDamage number kinds layout old damage
+    → IsPartDamage number kinds layout new damage
+part_damage_kept number kinds layout old new damage kept is =
+    let file : PartRow → FileId = λ row. record { table = number; part = row.part } in
+    record {
+      earlier = is.earlier;
+      row = is.row;
+      later = is.later;
+      split = is.split;
+      whole = All-weaker (λ (row : PartRow). IsWhole kinds (old (file row))) (λ (row : PartRow). IsWhole kinds (new (file row))) (λ row whole. subst (IsWhole kinds) (sym (kept (file row))) whole) is.earlier is.whole;
+      is = subst (λ (bytes : List ℕ). IsDamageOfPart number kinds is.row.part bytes damage) (sym (kept (file is.row))) is.is;
+    }
 
 -- what comes of damage that is met
 pub tells_or_fails : (r : Result Bool RunFault) (A : Type 0) (before said line : List ℕ) → OnOk r A → (A → ⊥) → (IsErrOf r Damaged → said ≡ before ++ line) → TellsOrFails r before said line

@@ -5,8 +5,8 @@ use Rattle.std.proofs.lemmas.Bool.{ltb-true, ltb-false}
 use Rattle.std.specs.Result.{is_err, is_ok}
 use Rattle.std.proofs.lemmas.List.{length-map, length-take-le, take_all}
 use Rattle.std.proofs.lemmas.List.Elements.{All-nil, All-cons}
-use Rattle.std.proofs.lemmas.Option.{slice_get_within, get_or_from_slice_get}
-use Rattle.chv_catalog.specs.Schemas.{kinds_of}
+use Rattle.std.specs.Option.{option_map}
+use Rattle.std.proofs.lemmas.Option.{slice_get-map, slice_get_within, get_or_from_slice_get}
 use Rattle.chv_catalog.specs.declared.table_def.TableDef.{TableDef}
 use Rattle.chv_site.specs.declared.file_id.FileId.{FileId}
 use Rattle.chv_site.specs.Files.{FileState, settled, KeepsOthers}
@@ -16,21 +16,24 @@ use Rattle.chv_site.proofs.Moments.{weakened, goes_on}
 use Rattle.chv_gate.specs.GateLog.{HasFrames, IsReady}
 use Rattle.chv_gate.specs.Crashes.{IsLeftWith, LeavesFrames}
 use Rattle.chv_gate.proofs.GateLogLemmas.{unique}
-use Rattle.chv_part.specs.Books.{Entry, Book}
+use Rattle.chv_commit.specs.Commits.{commit_spelling}
+use Rattle.chv_commit.specs.Replays.{no_state, replayed}
+use Rattle.chv_commit.specs.declared.commit.Commit.{Commit}
+use Rattle.chv_commit.specs.declared.part_row.PartRow.{PartRow}
+use Rattle.chv_part.specs.Books.{TableForm, Book}
 use Rattle.chv_part.specs.Parts.{part_file}
+use Rattle.chv_part.specs.Standing.{IsPart, TableStands}
 use Rattle.chv_part.specs.declared.damage.Damage.{Damage}
 use Rattle.chv_part.specs.declared.damage.Damage.TheVariants.{Catalog, Log, PartHash, PartShape}
-use Rattle.chv_table.specs.Books.{EachPart, TableStands, commits_of}
-use Rattle.chv_table.specs.Commits.{Commit, adds}
 use Rattle.chv_table.specs.Damage.{IsLogDamage}
-use Rattle.chv_table.specs.Tables.{HoldsCommits, HoldsBook, SettlesBook}
+use Rattle.chv_table.specs.Tables.{form_of, held_state, HoldsCommits, HoldsBook, SettlesBook}
 use Rattle.chv_table.specs.Tables.{IsPlaced as IsTablePlaced}
 use Rattle.chv_table.specs.declared.fault.TableFault.{TableFault}
 use Rattle.chv_table.specs.declared.fault.TableFault.TheVariants as table_fault
 use Rattle.chv_table.specs.declared.table.Table.{Table}
-use Rattle.chv_table.proofs.OpeningLemmas.{log_of}
+use Rattle.chv_table.proofs.LogDamageLemmas.{log_of}
 use Rattle.chv_table.proofs.TableLemmas.{holds_book_kept}
-use Rattle.chv_types.specs.declared.kind.Kind.{Kind}
+use Rattle.chv_types.specs.declared.value.Value.{Value}
 use Rattle.chv_engine.specs.Crashes.{StandsWith}
 use Rattle.chv_engine.specs.Damage.{Files, HasSchema, HasCommits, IsLogWhole, IsFirstLogDamage}
 use Rattle.chv_engine.specs.Histories.{Accepted, History, Settles, tables_of, catalog_payload}
@@ -88,27 +91,35 @@ def_at (accepted ∷ schema) (suc place) def at = def_at schema place def at
 
 -- a book for which a table's files stand, where they are as they were
 module _ (number : ℕ) (old new : FileId → FileState) (same : (f : FileId) → f.table ≡ number → new f ≡ old f) where
-  parts_same : (kinds : List Kind) (part : ℕ) (entries : List Entry) → EachPart (λ f. (old f).bytes) (part_file kinds) number part entries → EachPart (λ f. (new f).bytes) (part_file kinds) number part entries
-  parts_same kinds part [] parts = tt
-  parts_same kinds part (entry ∷ entries) parts =
-      (ap (λ (s : FileState). s.bytes) (same (record { table = number; part = part }) refl) ∙ parts.0, parts_same kinds (part + 1) entries parts.1)
+  parts_same : (made : List (List Value) → List ℕ) (key : List ℕ) (book : Book) (layout : List PartRow) → All (IsPart (λ f. (old f).bytes) made number key book) layout
+      → All (IsPart (λ f. (new f).bytes) made number key book) layout
+  parts_same made key book layout parts = λ k d below.
+      let part = parts k d below in
+      record { counted = part.counted; file = ap (λ (s : FileState). s.bytes) (same _ refl) ∙ part.file }
 
-  pub settles_book_same : (kinds : List Kind) (key : List ℕ) (book : Book) → SettlesBook number kinds key old book → SettlesBook number kinds key new book
-  settles_book_same kinds key book settles = record {
-    settled_files = λ f here. subst (λ (s : FileState). s ≡ settled s.bytes) (sym (same f here)) (settles.settled_files f here);
-    stands = record {
-      lawful = settles.stands.lawful;
-      log = subst (λ (s : FileState). HasFrames (adds 8 (commits_of book)) s.bytes) (sym (same (log_of number) refl)) settles.stands.log;
-      parts = parts_same kinds 8 book.entries settles.stands.parts;
-    };
-  }
+  pub settles_book_same : (form : TableForm) (book : Book) → SettlesBook number form old book → SettlesBook number form new book
+  settles_book_same form book settles =
+      let stands = settles.stands in
+      record {
+        settled_files = λ f here. subst (λ (s : FileState). s ≡ settled s.bytes) (sym (same f here)) (settles.settled_files f here);
+        stands = record {
+          lawful = stands.lawful;
+          commits = stands.commits;
+          right = stands.right;
+          log = subst (λ (s : FileState). HasFrames (map commit_spelling stands.commits) s.bytes) (sym (same (log_of number) refl)) stands.log;
+          state = stands.state;
+          replays = stands.replays;
+          describes = stands.describes;
+          parts = parts_same (part_file form.kinds) form.key book stands.state.layout stands.parts;
+        };
+      }
 
 -- a table that was opened: what is held of it, and that it holds the book for which its files stood
 pub record IsOpened (old new : FileId → FileState) (number : ℕ) (def : TableDef) (table : Table) : Type 0 where
   pub held : IsHeldAs number def table
   pub placed : IsTablePlaced table new
   pub opens : OpensTable (λ f. (old f).bytes) (λ f. (new f).bytes) number def table
-  pub holds : (book : Book) → SettlesBook number (kinds_of def) def.key old book → HoldsBook table new book
+  pub holds : (book : Book) → SettlesBook number (form_of def) old book → HoldsBook table new book
 
 -- it stays so while the log of another table is begun
 pub opened_kept : (old mid new : FileId → FileState) (other number : ℕ) (def : TableDef) (table : Table) → number ≢ other → KeepsOthers (log_of other) mid new → IsOpened old mid number def table → IsOpened old new number def table
@@ -119,9 +130,7 @@ opened_kept old mid new other number def table apart kept opened =
       held = opened.held;
       placed = subst (λ (s : FileState). table.log.gate < length s.bytes) (sym (same table.log.file (ap (λ (f : FileId). f.table) here))) opened.placed;
       opens = record {
-        count = opened.opens.count;
         commits = opened.opens.commits;
-        next = opened.opens.next;
         parts = λ part behind. ap (λ (s : FileState). s.bytes) (same (record { table = number; part = part }) refl) ∙ opened.opens.parts part behind;
       };
       holds = λ book settles. holds_book_kept table mid new book opened.held.0 (λ f is. same f (is ∙ opened.held.1.number_is)) (opened.holds book settles);
@@ -139,25 +148,31 @@ later_same number table f later here n some below is = absurd (omega (arith, lat
 pub record AreOpened (old new : FileId → FileState) (defs : List TableDef) (number : ℕ) (tables : List Table) : Type 0 where
   pub each : EachTable (IsOpened old new) 1 (take (number - 1) defs) tables
   pub kept : KeepsLater number old new
-  pub whole : (p : ℕ) → p + 1 < number → IsLogWhole (λ f. (old f).bytes) (p + 1)
+  pub whole : (p : ℕ) (before : TableDef) → p + 1 < number → slice_get defs p ≡ Some before → IsLogWhole (λ f. (old f).bytes) (p + 1) before.window
 
 pub opened_none : (files : FileId → FileState) (defs : List TableDef) → AreOpened files files defs 1 []
-opened_none files defs = record { each = tt; kept = λ f apart. refl; whole = λ p below. absurd (omega (arith, below)) }
+opened_none files defs = record { each = tt; kept = λ f apart. refl; whole = λ p before below. absurd (omega (arith, below)) }
 
 -- one table more
 module _ (old mid new : FileId → FileState) (defs : List TableDef) (number : ℕ) (some : 1 ≤ number) (def : TableDef) (at : slice_get defs (number - 1) ≡ Some def)
     (tables : List Table) (so_far : AreOpened old mid defs number tables) (table : Table) (held : IsHeldAs number def table) (placed : IsTablePlaced table new) (others : KeepsOthers (log_of number) mid new)
-    (commits : List Commit) (has : HoldsCommits table new commits) (log : HasFrames (adds 8 commits) (mid (log_of number)).bytes)
-    (holds : (book : Book) → SettlesBook number (kinds_of def) def.key mid book → HoldsBook table new book) where
+    (commits : List Commit) (has : HoldsCommits table new commits) (log : HasFrames (map commit_spelling commits) (mid (log_of number)).bytes)
+    (holds : (book : Book) → SettlesBook number (form_of def) mid book → HoldsBook table new book) where
   same : (f : FileId) → f.table ≡ number → mid f ≡ old f
   same f here = so_far.kept f (later_same number number f (omega arith) here)
 
-  its_commits : HasCommits (λ f. (old f).bytes) number (length commits)
+  its_commits : HasCommits (λ f. (old f).bytes) number def.window table.layout.items
   its_commits = record {
-    commits = commits;
-    counted = refl;
-    bounded = omega (arith, held.0.bounded, has.next);
-    log = subst (λ (s : FileState). HasFrames (adds 8 commits) s.bytes) (same (log_of number) refl) log;
+    payloads = map commit_spelling commits;
+    right = record {
+      commits = commits;
+      right = has.right;
+      are = refl;
+      state = held_state table;
+      replays = subst (λ (window : ℕ). replayed window no_state commits ≡ Some (held_state table)) (ap (λ (form : TableForm). form.window) held.1.form_is) has.replays;
+    };
+    log = subst (λ (s : FileState). HasFrames (map commit_spelling commits) s.bytes) (same (log_of number) refl) log;
+    layout_is = refl;
   }
 
   it : IsOpened old new number def table
@@ -165,14 +180,12 @@ module _ (old mid new : FileId → FileState) (defs : List TableDef) (number : �
     held = held;
     placed = placed;
     opens = record {
-      count = length commits;
       commits = its_commits;
-      next = has.next;
       parts = λ part behind.
           let f : FileId = record { table = number; part = part } in
           ap (λ (s : FileState). s.bytes) (others f (part_apart (log_of number) number part refl behind) ∙ same f refl);
     };
-    holds = λ book settles. holds book (settles_book_same number old mid same (kinds_of def) def.key book settles);
+    holds = λ book settles. holds book (settles_book_same number old mid same (form_of def) book settles);
   }
 
   pub opened_more : AreOpened old new defs (number + 1) (tables ++ table ∷ [])
@@ -189,9 +202,13 @@ module _ (old mid new : FileId → FileState) (defs : List TableDef) (number : �
             (each-weaker (IsOpened old mid) (IsOpened old new) 1 first tables (λ n d t low high. opened_kept old mid new number n d t (λ is. absurd (omega (arith, is, high, place))) others) so_far.each)
             (subst (λ (n : ℕ). IsOpened old new n def table) (sym place) it));
         kept = λ f apart. others f (apart number some (omega arith)) ∙ so_far.kept f (λ n low below. apart n low (omega (arith, below)));
-        whole = λ p below. elim (below_or p below) as (λ _. IsLogWhole (λ f. (old f).bytes) (p + 1)) [
-          | inl less ↦ so_far.whole p less
-          | inr last ↦ subst (IsLogWhole (λ f. (old f).bytes)) (sym last) (length commits, its_commits)
+        whole = λ p before below there. elim (below_or p below) as (λ _. IsLogWhole (λ f. (old f).bytes) (p + 1) before.window) [
+          | inl less ↦ so_far.whole p before less there
+          | inr last ↦
+              let here : slice_get defs (number - 1) ≡ Some before = ap (λ (n : ℕ). slice_get defs n) (omega (arith, last)) ∙ there in
+              let one : def ≡ before = cc in
+              subst (λ (n : ℕ). IsLogWhole (λ f. (old f).bytes) n before.window) (sym last)
+              (subst (λ (d : TableDef). IsLogWhole (λ f. (old f).bytes) number d.window) one (table.layout.items, its_commits))
         ];
       }
     where
@@ -234,8 +251,8 @@ module _ (old new : FileId → FileState) (defs : List TableDef) (number : ℕ) 
       let here : place + 1 ≡ 1 + place = omega arith in
       is.holds (history.books (1 + place)) (record {
         settled_files = λ f is_its. settles.settled_files f;
-        stands = subst (λ (n : ℕ). TableStands (λ f. (old f).bytes) n (kinds_of def) def.key (history.books n)) here
-            (subst (λ (d : TableDef). TableStands (λ f. (old f).bytes) (place + 1) (kinds_of d) d.key (history.books (place + 1))) stands.2 (settles.stands.tables place stands.0 stands.1));
+        stands = subst (λ (n : ℕ). TableStands (λ f. (old f).bytes) n (form_of def) (history.books n)) here
+            (subst (λ (d : TableDef). TableStands (λ f. (old f).bytes) (place + 1) (form_of d) (history.books (place + 1))) stands.2 (settles.stands.tables place stands.0 stands.1));
       }))
       all_opened
 
@@ -263,24 +280,26 @@ module _ {S : Type 0} (moment : S → ℕ) (left_since : S → ℕ → Image →
     stands_there : number ≤ length history.schema
     stands_there = omega (arith, some, slice_get_within defs (number - 1) def at, ap (λ (ds : List TableDef). length ds) are, length-map history.schema (λ (accepted : Accepted). accepted.def))
 
-    table_log : (files : FileId → FileState) → Settles files history → HasFrames (adds 8 (commits_of (history.books number))) (files (log_of number)).bytes
+    table_log : (files : FileId → FileState) → Settles files history → (payloads : List (List ℕ)) × HasFrames payloads (files (log_of number)).bytes
     table_log files settles =
         let stands = def_at history.schema (number - 1) def (subst (λ (ds : List TableDef). slice_get ds (number - 1) ≡ Some def) are at) in
+        let table = settles.stands.tables (number - 1) stands.0 stands.1 in
         let here : number - 1 + 1 ≡ number = omega (arith, some) in
-        subst (λ (n : ℕ). HasFrames (adds 8 (commits_of (history.books n))) (files (log_of n)).bytes) here (settles.stands.tables (number - 1) stands.0 stands.1).log
+        (map commit_spelling table.commits, subst (λ (n : ℕ). HasFrames (map commit_spelling table.commits) (files (log_of n)).bytes) here table.log)
 
     -- the log of one table more is begun
     pub table_during : (old mid new : S) → Settles (state mid) history → said mid ≡ said old → During moment left_since old mid (StandsWith history (said old))
         → ((ps : List (List ℕ)) → LeavesFrames ps (state mid (log_of number)) → During moment left_since mid new (IsLeftWith (log_of number) (HasFrames ps) (state mid) (said mid))) → During moment left_since old new (StandsWith history (said old))
     table_during old mid new settles same first during =
-        then_during old mid new same first (log_during (log_of number) (adds 8 (commits_of (history.books number))) mid new refl stands_there settles (table_log (state mid) settles) during)
+        let log = table_log (state mid) settles in
+        then_during old mid new same first (log_during (log_of number) log.0 mid new refl stands_there settles log.1 during)
 
     -- and it is ready
     pub table_settles : (mid new : FileId → FileState) (table : Table) (commits : List Commit) → Settles mid history → IsHeldAs number def table → KeepsOthers (log_of number) mid new → HoldsCommits table new commits
-        → HasFrames (adds 8 commits) (mid (log_of number)).bytes → Settles new history
+        → HasFrames (map commit_spelling commits) (mid (log_of number)).bytes → Settles new history
     table_settles mid new table commits settles held others has log =
-        settles_kept history (log_of number) refl stands_there mid settles (adds 8 commits) log new table.log.gate others
-        (subst (λ (f : FileId). IsReady table.log.gate (adds 8 commits) (new f)) (held.0.log ∙ ap log_of held.1.number_is) has.log)
+        settles_kept history (log_of number) refl stands_there mid settles (map commit_spelling commits) log new table.log.gate others
+        (subst (λ (f : FileId). IsReady table.log.gate (map commit_spelling commits) (new f)) (held.0.log ∙ ap log_of held.1.number_is) has.log)
 
 -- why the tables were not opened
 pub tables_told : (tables : List TableDef) (files : Files) (why : OpenFault) → ((damage : Damage) (name : Vec ℕ Global) → why ≡ fault.Damaged damage name → IsFirstOf tables files damage name.items) → IsTablesDamage tables files why
@@ -290,16 +309,16 @@ tables_told tables files (fault.Damaged damage name) told = told damage name ref
 
 -- of the tables that are left, the first is damaged
 pub first_damaged : (old mid : FileId → FileState) (defs : List TableDef) (number : ℕ) (some : 1 ≤ number) (def : TableDef) → slice_get defs (number - 1) ≡ Some def → (tables : List Table) → AreOpened old mid defs number tables
-    → (damage : Damage) (name : List ℕ) → IsLogDamage number (mid (log_of number)).bytes damage → name ≡ def.name → IsFirstOf defs (λ f. (old f).bytes) damage name
+    → (damage : Damage) (name : List ℕ) → IsLogDamage number def.window (mid (log_of number)).bytes damage → name ≡ def.name → IsFirstOf defs (λ f. (old f).bytes) damage name
 first_damaged old mid defs number some def at tables so_far damage name is named =
     let here : number ≡ number - 1 + 1 = omega (arith, some) in
     record {
       place = number - 1;
       def = def;
       stands = at;
-      earlier = λ p below. so_far.whole p (omega (arith, below, some));
-      is = subst (λ (n : ℕ). IsLogDamage n (old (log_of n)).bytes damage) here
-          (subst (λ (s : FileState). IsLogDamage number s.bytes damage) (so_far.kept (log_of number) (later_same number number (log_of number) (omega arith) refl)) is);
+      earlier = λ p before below. so_far.whole p before (omega (arith, below, some));
+      is = subst (λ (n : ℕ). IsLogDamage n def.window (old (log_of n)).bytes damage) here
+          (subst (λ (s : FileState). IsLogDamage number def.window s.bytes damage) (so_far.kept (log_of number) (later_same number number (log_of number) (omega arith) refl)) is);
       named = named;
     }
 
@@ -309,12 +328,12 @@ module _ (catalog : OpenedCatalog) (old mid : FileId → FileState) (others : Ke
   tables_same : (table part : ℕ) → 1 ≤ table → mid (record { table = table; part = part }) ≡ old (record { table = table; part = part })
   tables_same table part some = others (record { table = table; part = part }) (other_table CATALOG table part (λ is. absurd (omega (arith, some, is))))
 
-  commits_same : (table count : ℕ) → 1 ≤ table → HasCommits (λ f. (mid f).bytes) table count → HasCommits (λ f. (old f).bytes) table count
-  commits_same table count some has = record {
-    commits = has.commits;
-    counted = has.counted;
-    bounded = has.bounded;
-    log = subst (λ (s : FileState). HasFrames (adds 8 has.commits) s.bytes) (tables_same table 0 some) has.log;
+  commits_same : (table window : ℕ) (layout : List PartRow) → 1 ≤ table → HasCommits (λ f. (mid f).bytes) table window layout → HasCommits (λ f. (old f).bytes) table window layout
+  commits_same table window layout some has = record {
+    payloads = has.payloads;
+    right = has.right;
+    log = subst (λ (s : FileState). HasFrames has.payloads s.bytes) (tables_same table 0 some) has.log;
+    layout_is = has.layout_is;
   }
 
   has_schema : HasSchema (λ f. (old f).bytes) holds.schema
@@ -329,9 +348,7 @@ module _ (catalog : OpenedCatalog) (old mid : FileId → FileState) (others : Ke
     tables = holds.tables;
     logs = each-weaker (OpensTable (λ f. (mid f).bytes) (λ f. (new f).bytes)) (OpensTable (λ f. (old f).bytes) (λ f. (new f).bytes)) 1 catalog.schema.tables tables.items
         (λ n def table low high is. record {
-          count = is.count;
-          commits = commits_same n is.count low is.commits;
-          next = is.next;
+          commits = commits_same n def.window table.layout.items low is.commits;
           parts = λ part behind. is.parts part behind ∙ ap (λ (s : FileState). s.bytes) (tables_same n part low);
         }) each;
   }
@@ -346,8 +363,12 @@ module _ (catalog : OpenedCatalog) (old mid : FileId → FileState) (others : Ke
         place = first.place;
         accepted = stands.0;
         stands = stands.1;
-        earlier = λ p below. let whole = first.earlier p below in (whole.0, commits_same (p + 1) whole.0 (omega arith) whole.1);
-        is = subst (λ (s : FileState). IsLogDamage (first.place + 1) s.bytes damage) (tables_same (first.place + 1) 0 (omega arith)) first.is;
+        earlier = λ p before below at.
+            let there = subst (λ (ds : List TableDef). slice_get ds p ≡ Some before.def) (sym holds.tables) (slice_get-map (λ (a : Accepted). a.def) holds.schema p ∙ ap (option_map (λ (a : Accepted). a.def)) at) in
+            let whole = first.earlier p before.def below there in
+            (whole.0, commits_same (p + 1) before.def.window whole.0 (omega arith) whole.1);
+        is = subst (λ (d : TableDef). IsLogDamage (first.place + 1) d.window (old (log_of (first.place + 1))).bytes damage) (sym stands.2)
+            (subst (λ (s : FileState). IsLogDamage (first.place + 1) first.def.window s.bytes damage) (tables_same (first.place + 1) 0 (omega arith)) first.is);
         named = first.named ∙ ap (λ (def : TableDef). def.name) (sym stands.2);
       }
 

@@ -1,5 +1,5 @@
 -- Statements that are accepted one after the other, and the tables that they create.
-use Rattle.std.proofs.Common.{◌≡◌, ◌≢◌, ℕ, ◌≤◌, List, [], ◌∷◌, ◌++◌, length, map, get_or, drop, Bool, true, false, ◌&&◌, Option, Some, None, Ok, refl, sym, ap, ap₂, subst, arith, append_assoc}
+use Rattle.std.proofs.Common.{◌≡◌, ◌≢◌, ℕ, ◌≤◌, List, [], ◌∷◌, ◌++◌, length, map, get_or, drop, Bool, true, false, ◌&&◌, Option, Ok, refl, sym, ap, ap₂, subst, arith, append_assoc}
 use Rattle.std.specs.List.{All, list_all}
 use Rattle.std.proofs.lemmas.List.{append-nil, length-map}
 use Rattle.std.proofs.lemmas.List.Elements.{All-nil, All-cons}
@@ -46,13 +46,12 @@ no_table tables s def h other = let none = defined-other tables s other in cc
 
 plain_built : (tables : List TableDef) (s : Statement) (def : TableDef) → is_built s ≡ true → defined tables s ≡ Ok def → All IsPlain (kinds_of def)
 unfolding is_built
-plain_built tables (CreateTable name columns engine.MergeTree key None) def built defines = plain tables name columns engine.MergeTree key None def defines (plain_words columns built)
-plain_built tables (CreateTable name columns engine.MergeTree key (Some window)) def built defines = absurd (cc built)
+plain_built tables (CreateTable name columns engine.MergeTree key window) def built defines = plain tables name columns engine.MergeTree key window def defines (plain_words columns built)
 plain_built tables (CreateTable name columns engine.AggregatingMergeTree key window) def built defines = absurd (cc built)
 plain_built tables (CreateView name target select) def built defines = absurd (cc built)
 plain_built tables (Insert table columns settings rows) def built defines = absurd (no_table tables (Insert table columns settings rows) def defines (λ n c e k w at. cc))
 plain_built tables (Query select) def built defines = absurd (no_table tables (Query select) def defines (λ n c e k w at. cc))
-plain_built tables (ShowParts table) def built defines = absurd (cc built)
+plain_built tables (ShowParts table) def built defines = absurd (no_table tables (ShowParts table) def defines (λ n c e k w at. cc))
 plain_built tables (Optimize table) def built defines = absurd (cc built)
 plain_built tables FlushQueue def built defines = absurd (cc built)
 

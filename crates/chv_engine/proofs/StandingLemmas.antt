@@ -1,5 +1,5 @@
 -- What a crash leaves of files that stand for a history, also while one of their logs is begun.
-use Rattle.std.proofs.Common.{true, false, ◌≡◌, ◌≢◌, ◌⊎◌, inl, inr, ℕ, ◌+◌, ◌<◌, ◌≤◌, List, [], ◌∷◌, length, map, refl, sym, ◌∙◌, ap, subst, arith}
+use Rattle.std.proofs.Common.{true, false, ◌≡◌, ◌≢◌, ◌⊎◌, inl, inr, ℕ, ◌+◌, ◌<◌, ◌≤◌, List, length, map, refl, sym, ◌∙◌, ap, subst, arith}
 use Rattle.std.proofs.lemmas.Bool.{false≢true}
 use Rattle.std.proofs.lemmas.List.{append-nil}
 use Rattle.chv_site.specs.declared.file_id.FileId.{FileId}
@@ -12,10 +12,13 @@ use Rattle.chv_gate.specs.GateLog.{HasFrames, IsReady}
 use Rattle.chv_gate.specs.Crashes.{IsLeftWith, LeavesFrames}
 use Rattle.chv_gate.proofs.GateLogLemmas.{unique, has_frames-IsReady}
 use Rattle.chv_part.specs.Parts.{part_file}
-use Rattle.chv_catalog.specs.Schemas.{kinds_of}
-use Rattle.chv_part.specs.Books.{Entry}
-use Rattle.chv_table.specs.Books.{EachPart}
-use Rattle.chv_types.specs.declared.kind.Kind.{Kind}
+use Rattle.chv_part.specs.Books.{TableForm, Book}
+use Rattle.chv_part.specs.Standing.{TableStands}
+use Rattle.chv_commit.specs.Commits.{commit_spelling}
+use Rattle.chv_commit.specs.Replays.{no_state}
+use Rattle.chv_commit.proofs.SoundLemmas.{IsSound-no_state, IsSound-replayed}
+use Rattle.chv_table.specs.Tables.{form_of}
+use Rattle.chv_table.proofs.TableLemmas.{IsPart-by}
 use Rattle.chv_engine.specs.Crashes.{StandsWith, IsLeftBy}
 use Rattle.chv_engine.specs.Runs.{Event, begins}
 use Rattle.chv_engine.specs.Histories.{History, Stands, Settles, catalog_payload}
@@ -50,25 +53,28 @@ module _ (history : History) (f : FileId) (is_log : f.part ≡ 0) (stands_there 
     | inr apart ↦ subst (HasFrames payloads) (sym (others g apart)) has
   ]
 
-  parts_kept : (kinds : List Kind) (table part : ℕ) (entries : List Entry) → 8 ≤ part → EachPart files (part_file kinds) table part entries → EachPart image (part_file kinds) table part entries
-  parts_kept kinds table part [] behind parts = tt
-  parts_kept kinds table part (entry ∷ entries) behind parts = (
-    others (record { table = table; part = part }) (part_apart f table part is_log behind) ∙ parts.0,
-    parts_kept kinds table (part + 1) entries (omega arith) parts.1,
-  )
+  -- a table's files stand for its book
+  table_kept : (table : ℕ) (form : TableForm) (book : Book) → TableStands files table form book → TableStands image table form book
+  table_kept table form book stands =
+      let sound = IsSound-replayed form.window no_state stands.state stands.commits IsSound-no_state stands.replays in
+      record {
+        lawful = stands.lawful;
+        commits = stands.commits;
+        right = stands.right;
+        log = frames_kept (record { table = table; part = 0 }) (map commit_spelling stands.commits) stands.log;
+        state = stands.state;
+        replays = stands.replays;
+        describes = stands.describes;
+        parts = IsPart-by files image (part_file form.kinds) (part_file form.kinds) table stands.state.next_part form.key book stands.state.layout
+            (λ part rows low high was. others (record { table = table; part = part }) (part_apart f table part is_log low) ∙ was) sound.parts stands.parts;
+      }
 
   -- the files stand for the same history
   pub stands_kept : Stands files history → Stands image history
   stands_kept stands = record {
     lawful = stands.lawful;
     catalog = frames_kept (record { table = 0; part = 0 }) (map catalog_payload history.schema) stands.catalog;
-    tables = λ place accepted at.
-        let was = stands.tables place accepted at in
-        record {
-          lawful = was.lawful;
-          log = frames_kept (record { table = place + 1; part = 0 }) _ was.log;
-          parts = parts_kept (kinds_of accepted.def) (place + 1) 8 (history.books (place + 1)).entries (omega arith) was.parts;
-        };
+    tables = λ place accepted at. table_kept (place + 1) (form_of accepted.def) (history.books (place + 1)) (stands.tables place accepted at);
     others = λ table beyond.
         let same = others (record { table = table; part = 0 }) (other_table f table 0 (λ is. absurd (omega (arith, is, beyond, stands_there)))) in
         subst (λ (l : List ℕ). length l ≤ 1) (sym same) (stands.others table beyond);

@@ -2,7 +2,6 @@
 use Rattle.std.proofs.Common.{◌≡◌, ◌≢◌, ℕ, ◌+◌, ◌<◌, ◌≤◌, List, length, map, slice_get, Some, sym, ap, subst, ◌∙◌, arith}
 use Rattle.std.specs.Option.{option_map}
 use Rattle.std.proofs.lemmas.Option.{slice_get-map}
-use Rattle.chv_catalog.specs.Schemas.{kinds_of}
 use Rattle.chv_catalog.specs.declared.table_def.TableDef.{TableDef}
 use Rattle.chv_site.specs.declared.file_id.FileId.{FileId}
 use Rattle.chv_site.specs.Files.{FileState, KeepsFiles}
@@ -10,11 +9,12 @@ use Rattle.chv_site.specs.Images.{Image, IsFileImage, IsImage, HasLengths}
 use Rattle.chv_site.proofs.Images.{reads_images}
 use Rattle.chv_gate.specs.GateLog.{IsReady, HasFrames}
 use Rattle.chv_gate.proofs.CrashLemmas.{ready_image}
-use Rattle.chv_table.specs.Books.{TableStands}
+use Rattle.chv_part.specs.Books.{TableForm}
+use Rattle.chv_part.specs.Standing.{TableStands}
+use Rattle.chv_table.specs.Tables.{form_of}
 use Rattle.chv_table.specs.Tables.{IsPlaced as IsTablePlaced}
 use Rattle.chv_table.specs.declared.table.Table.{Table}
 use Rattle.chv_table.proofs.TableLemmas.{table_left, holds_book_kept}
-use Rattle.chv_types.specs.declared.kind.Kind.{Kind}
 use Rattle.chv_engine.specs.Histories.{Accepted, History, Stands, catalog_payload}
 use Rattle.chv_engine.specs.Stores.{EachTable, IsHeldAs, IsWithin, HoldsTable, Holds}
 use Rattle.chv_engine.specs.declared.store.Store.{Store}
@@ -70,16 +70,15 @@ ready_left gate payloads state image ready is = ready_image gate payloads state 
 
 -- what a crash leaves of a table that is held stands for its book
 pub held_left : (files : FileId → FileState) (image : Image) (history : History) (number : ℕ) (def : TableDef) (table : Table) → IsHeldWith files history number def table
-    → ((f : FileId) → f.table ≡ number → IsFileImage (files f) (image f)) → TableStands image number (kinds_of def) def.key (history.books number)
+    → ((f : FileId) → f.table ≡ number → IsFileImage (files f) (image f)) → TableStands image number (form_of def) (history.books number)
 held_left files image history number def table held is =
     let left = table_left table files image (history.books number) held.0.0 held.1 (λ f same. is f (same ∙ held.0.1.number_is)) in
-    subst (λ (n : ℕ). TableStands image n (kinds_of def) def.key (history.books number)) held.0.1.number_is
-    (subst (λ (kinds : List Kind). TableStands image table.number kinds def.key (history.books number)) held.0.1.kinds_are
-    (subst (λ (key : List ℕ). TableStands image table.number table.kinds key (history.books number)) held.0.1.key_is left))
+    subst (λ (n : ℕ). TableStands image n (form_of def) (history.books number)) held.0.1.number_is
+    (subst (λ (form : TableForm). TableStands image table.number form (history.books number)) held.0.1.form_is left)
 
 -- the files of one table of a store stand for its book, where a crash leaves them so
 pub table_stands : (store : Store) (files : FileId → FileState) (image : Image) (history : History) (place : ℕ) (accepted : Accepted) → IsWithin store → Holds store files history → slice_get history.schema place ≡ Some accepted
-    → ((f : FileId) → f.table ≡ place + 1 → IsFileImage (files f) (image f)) → TableStands image (place + 1) (kinds_of accepted.def) accepted.def.key (history.books (place + 1))
+    → ((f : FileId) → f.table ≡ place + 1 → IsFileImage (files f) (image f)) → TableStands image (place + 1) (form_of accepted.def) (history.books (place + 1))
 table_stands store files image history place accepted within held stands is =
     let at = held_at store files history place accepted.def within held (def_at store files history place accepted held stands) in
     let number : 1 + place ≡ place + 1 = omega arith in

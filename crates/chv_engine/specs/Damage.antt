@@ -1,17 +1,18 @@
 -- How a store is damaged: docs/FORMATS.md, "Damage".
-use Rattle.std.specs.Prelude.{ℕ, ◌≡◌, ◌⊎◌, ◌+◌, ◌<◌, ◌≤◌, List, [], ◌∷◌, length, map, true, Option, None, Some, Ok, slice_get}
+use Rattle.std.specs.Prelude.{ℕ, ◌≡◌, ◌⊎◌, ◌+◌, ◌<◌, List, [], ◌∷◌, map, true, Option, None, Some, Ok, slice_get}
 use Rattle.chv_site.specs.declared.file_id.FileId.{FileId}
 use Rattle.chv_ast.specs.declared.statement.Select.{Select}
 use Rattle.chv_ast.specs.declared.statement.Statement.{Statement}
 use Rattle.chv_ast.specs.declared.statement.Statement.TheVariants as statement
 use Rattle.chv_catalog.specs.Schemas.{kinds_of}
 use Rattle.chv_catalog.specs.declared.table_def.TableDef.{TableDef}
+use Rattle.chv_commit.specs.Replays.{AreCommits}
+use Rattle.chv_commit.specs.declared.part_row.PartRow.{PartRow}
 use Rattle.chv_gate.specs.GateLog.{HasFrames}
 use Rattle.chv_gate.specs.Reading.{IsDamagedAt}
 use Rattle.chv_part.specs.declared.damage.Damage.{Damage}
 use Rattle.chv_part.specs.declared.damage.Damage.TheVariants.{Catalog}
 use Rattle.chv_plan.specs.Plans.{table_of}
-use Rattle.chv_table.specs.Commits.{Commit, adds, MAX_ENTRIES}
 use Rattle.chv_table.specs.Damage.{IsLogDamage, IsPartDamage}
 use Rattle.chv_engine.specs.DamageLines.{damage_line}
 use Rattle.chv_engine.specs.Forms.{is_whole_table}
@@ -33,16 +34,16 @@ pub record HasSchema (files : Files) (schema : List Accepted) : Type 0 where
   pub lawful : IsSchema schema
   pub frames : HasFrames (map catalog_payload schema) (files (record { table = 0; part = 0 }))
 
--- a table's log has so many commits, and is not damaged
-pub record HasCommits (files : Files) (table count : ℕ) : Type 0 where
-  pub commits : List Commit
-  pub counted : length commits ≡ count
-  pub bounded : count ≤ MAX_ENTRIES
-  pub log : HasFrames (adds 8 commits) (files (record { table = table; part = 0 }))
+-- a table's log is not damaged: its commits fit, and give this layout; the table's window keeps so many ids
+pub record HasCommits (files : Files) (table window : ℕ) (layout : List PartRow) : Type 0 where
+  pub payloads : List (List ℕ)
+  pub right : AreCommits window payloads
+  pub log : HasFrames payloads (files (record { table = table; part = 0 }))
+  pub layout_is : layout ≡ right.state.layout
 
 -- the log of a table is not damaged
-abbrev pub IsLogWhole : Files → ℕ → Type 0
-IsLogWhole files table = (count : ℕ) × HasCommits files table count
+abbrev pub IsLogWhole : Files → ℕ → ℕ → Type 0
+IsLogWhole files table window = (layout : List PartRow) × HasCommits files table window layout
 
 -- of the logs of the tables in the catalog, this damage is in the first that is damaged, that of a table of this name
 pub record IsFirstLogDamage (files : Files) (damage : Damage) (name : List ℕ) : Type 0 where
@@ -51,8 +52,8 @@ pub record IsFirstLogDamage (files : Files) (damage : Damage) (name : List ℕ) 
   pub place : ℕ
   pub accepted : Accepted
   pub stands : slice_get schema place ≡ Some accepted
-  pub earlier : (p : ℕ) → p < place → IsLogWhole files (p + 1)
-  pub is : IsLogDamage (place + 1) (files (record { table = place + 1; part = 0 })) damage
+  pub earlier : (p : ℕ) (before : Accepted) → p < place → slice_get schema p ≡ Some before → IsLogWhole files (p + 1) before.def.window
+  pub is : IsLogDamage (place + 1) accepted.def.window (files (record { table = place + 1; part = 0 })) damage
   pub named : name ≡ accepted.def.name
 
 -- the log of a table is damaged, and this line tells the first
@@ -83,21 +84,21 @@ pub record Shows (asked : Option Statement) (tables : List TableDef) (table : �
 pub record MeetsDamage (files : Files) (requests : List Request) (line : List ℕ) : Type 0 where
   pub schema : List Accepted
   pub has : HasSchema files schema
-  pub logs : (p : ℕ) → p < length schema → IsLogWhole files (p + 1)
+  pub logs : (p : ℕ) (accepted : Accepted) → slice_get schema p ≡ Some accepted → IsLogWhole files (p + 1) accepted.def.window
   pub table : ℕ
   pub def : TableDef
   pub shows : Shows (first_statement requests) (tables_of schema) table def
-  pub count : ℕ
-  pub commits : HasCommits files table count
+  pub layout : List PartRow
+  pub commits : HasCommits files table def.window layout
   pub damage : Damage
-  pub is : IsPartDamage table (kinds_of def) (8 + count) files damage
+  pub is : IsPartDamage table (kinds_of def) layout files damage
   pub told : line ≡ damage_line damage def.name
 
--- of the parts of a table from 8 on, some are whole and the next one is damaged, and this line tells it
+-- of some parts of a table this one is the first that is damaged, and this line tells it
 pub record IsPartDamaged (files : Files) (line : List ℕ) : Type 0 where
   pub table : ℕ
   pub def : TableDef
-  pub next : ℕ
+  pub layout : List PartRow
   pub damage : Damage
-  pub is : IsPartDamage table (kinds_of def) next files damage
+  pub is : IsPartDamage table (kinds_of def) layout files damage
   pub told : line ≡ damage_line damage def.name

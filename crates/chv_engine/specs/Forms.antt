@@ -1,5 +1,5 @@
 -- Which statements are built: docs/SQL.md, "What is built".
-use Rattle.std.specs.Prelude.{List, [], ◌∷◌, Bool, true, false, not, ◌&&◌, nat_lt, length, Some, None, is_none}
+use Rattle.std.specs.Prelude.{List, [], ◌∷◌, Bool, true, false, not, ◌&&◌, is_none}
 use Rattle.std.specs.List.{list_all}
 use Rattle.chv_ast.specs.declared.statement.EngineWord.TheVariants as engine
 use Rattle.chv_ast.specs.declared.statement.Item.{Item}
@@ -7,7 +7,6 @@ use Rattle.chv_ast.specs.declared.statement.Item.TheVariants as shown
 use Rattle.chv_ast.specs.declared.statement.KindWord.{KindWord}
 use Rattle.chv_ast.specs.declared.statement.KindWord.TheVariants as kind
 use Rattle.chv_ast.specs.declared.statement.Select.{Select}
-use Rattle.chv_ast.specs.declared.statement.Settings.{Settings}
 use Rattle.chv_ast.specs.declared.statement.Statement.{Statement}
 use Rattle.chv_ast.specs.declared.statement.Statement.TheVariants as statement
 
@@ -15,11 +14,6 @@ use Rattle.chv_ast.specs.declared.statement.Statement.TheVariants as statement
 abbrev pub is_plain : KindWord → Bool
 is_plain (kind.Plain name) = true
 is_plain (kind.Agg function arg) = false
-
--- no setting says more than its default
-abbrev pub are_default : Settings → Bool
-are_default settings =
-    is_none settings.token && (not settings.later && (settings.waits && (is_none settings.max_rows && (is_none settings.min_rows && is_none settings.min_bytes))))
 
 -- a list has no item
 abbrev pub is_empty : {A : Type 0} → List A → Bool
@@ -38,14 +32,13 @@ abbrev pub is_whole_table : Select → Bool
 is_whole_table query =
     is_all query.items && (not query.merged && (is_none query.filter && (is_empty query.keys && (is_empty query.order && is_none query.limit))))
 
--- a table without states, windows and merges of states; at most 65,536 rows without settings; and all rows of a table
+-- a table without states and merges of states; rows that are not held for later; all rows of a table; and its parts
 unfoldable pub is_built : Statement → Bool
-is_built (statement.CreateTable name columns engine.MergeTree key None) = list_all (λ column. is_plain column.kind) columns
-is_built (statement.CreateTable name columns engine.MergeTree key (Some window)) = false
+is_built (statement.CreateTable name columns engine.MergeTree key window) = list_all (λ column. is_plain column.kind) columns
 is_built (statement.CreateTable name columns engine.AggregatingMergeTree key window) = false
 is_built (statement.CreateView name target query) = false
-is_built (statement.Insert table columns settings rows) = are_default settings && not (nat_lt 65536 (length rows))
+is_built (statement.Insert table columns settings rows) = not settings.later
 is_built (statement.Query query) = is_whole_table query
-is_built (statement.ShowParts table) = false
+is_built (statement.ShowParts table) = true
 is_built (statement.Optimize table) = false
 is_built statement.FlushQueue = false

@@ -2,15 +2,15 @@
 use Rattle.std.specs.Prelude.{ℕ, ◌≡◌, ◌+◌, ◌<◌, ◌≤◌, List, [], ◌∷◌, ◌++◌, length, map, ◌==◌, true, if◌then◌else◌, Some, Ok, slice_get}
 use Rattle.chv_ast.specs.Formed.{WellFormed}
 use Rattle.chv_ast.specs.declared.statement.Statement.{Statement}
-use Rattle.chv_catalog.specs.Schemas.{kinds_of}
 use Rattle.chv_catalog.specs.declared.table_def.TableDef.{TableDef}
 use Rattle.chv_define.specs.Definitions.{defined}
 use Rattle.chv_gate.specs.GateLog.{HasFrames}
 use Rattle.chv_part.specs.Books.{Book, no_book}
+use Rattle.chv_part.specs.Standing.{TableStands}
 use Rattle.chv_print.specs.StatementTexts.{statement_text}
 use Rattle.chv_site.specs.declared.file_id.FileId.{FileId}
 use Rattle.chv_site.specs.Files.{FileState, settled}
-use Rattle.chv_table.specs.Books.{TableStands}
+use Rattle.chv_table.specs.Tables.{form_of}
 use Rattle.chv_engine.specs.Forms.{is_built}
 
 -- an accepted CREATE statement, and the table that it defines
@@ -72,7 +72,7 @@ pub record Stands (files : FileId → List ℕ) (history : History) : Type 0 whe
   pub lawful : IsSchema history.schema
   pub catalog : HasFrames (map catalog_payload history.schema) (files (record { table = 0; part = 0 }))
   pub tables : (place : ℕ) (accepted : Accepted) → slice_get history.schema place ≡ Some accepted
-      → TableStands files (place + 1) (kinds_of accepted.def) accepted.def.key (history.books (place + 1))
+      → TableStands files (place + 1) (form_of accepted.def) (history.books (place + 1))
   pub others : (table : ℕ) → length history.schema < table → length (files (record { table = table; part = 0 })) ≤ 1
 
 -- files that stand for a history, of which nothing is pending

@@ -9,6 +9,7 @@ pub mod Histories
 pub mod Inserts
 pub mod Meets
 pub mod Openings
+pub mod Parts
 pub mod Pulls
 pub mod Runs
 pub mod Script

@@ -23,7 +23,7 @@ pub record MeetsPart (store : Store) (files : Files) (table : ℕ) (def : TableD
   pub held : Table
   pub stands : slice_get store.tables.items (table - 1) ≡ Some held
   pub damage : Damage
-  pub is : IsPartDamage table (kinds_of def) held.next_part files damage
+  pub is : IsPartDamage table (kinds_of def) held.layout.items files damage
   pub told : line ≡ damage_line damage def.name
 
 -- this line is said and the run ends, unless it ends by another fault

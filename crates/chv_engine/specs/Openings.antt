@@ -60,11 +60,9 @@ open_fault_of table_fault.Failed name = fault.Failed
 open_fault_of (table_fault.Damaged damage) name = fault.Damaged damage name
 open_fault_of table_fault.NoMemory name = fault.NoMemory
 
--- a table that is opened: the number of its next part goes by the commits of its log, and its parts are as they were
+-- a table that is opened: its layout goes by the commits of its log, and its parts are as they were
 pub record OpensTable (old new : Files) (number : ℕ) (def : TableDef) (table : Table) : Type 0 where
-  pub count : ℕ
-  pub commits : HasCommits old number count
-  pub next : table.next_part ≡ 8 + count
+  pub commits : HasCommits old number def.window table.layout.items
   pub parts : (part : ℕ) → 8 ≤ part → new (record { table = number; part = part }) ≡ old (record { table = number; part = part })
 
 -- a store that is opened has the tables of the catalog's log
@@ -84,8 +82,8 @@ pub record IsFirstOf (tables : List TableDef) (files : Files) (damage : Damage) 
   pub place : ℕ
   pub def : TableDef
   pub stands : slice_get tables place ≡ Some def
-  pub earlier : (p : ℕ) → p < place → IsLogWhole files (p + 1)
-  pub is : IsLogDamage (place + 1) (files (record { table = place + 1; part = 0 })) damage
+  pub earlier : (p : ℕ) (before : TableDef) → p < place → slice_get tables p ≡ Some before → IsLogWhole files (p + 1) before.window
+  pub is : IsLogDamage (place + 1) def.window (files (record { table = place + 1; part = 0 })) damage
   pub named : name ≡ def.name
 
 -- why the tables of a catalog were not opened

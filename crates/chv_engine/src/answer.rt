@@ -85,6 +85,9 @@ impl Store {
             Statement::Query { select } => {
                 self.select(alloc, site, client, select.table.as_slice())
             }
+            Statement::ShowParts { table } => {
+                self.show_parts(alloc, site, client, table.as_slice())
+            }
             _ => refuse(site, client, Refusal::NotBuilt),
         }
     }

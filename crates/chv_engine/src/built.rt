@@ -1,12 +1,9 @@
 // Which statements are built.
 ghost use Rattle.std.specs.Prelude.{◌≡◌};
 ghost use Rattle.std.specs.List.{list_all};
-ghost use Rattle.chv_engine.specs.Forms.{is_built, is_plain, are_default, is_whole_table};
+ghost use Rattle.chv_engine.specs.Forms.{is_built, is_plain, is_whole_table};
 
-use chv_ast::{ColumnDef, EngineWord, Item, KindWord, Select, Settings, Statement};
-
-// The most rows of an insert so far.
-const MAX_ROWS: usize = 65_536;
+use chv_ast::{ColumnDef, EngineWord, Item, KindWord, Select, Statement};
 
 /// Whether a statement is built.
 #[tactic(auto, unfolding(crate::specs::Forms::is_built))]
@@ -17,13 +14,11 @@ pub fn is_built(statement: &Statement) -> bool
         Statement::CreateTable {
             columns,
             engine: EngineWord::MergeTree,
-            window: None,
             ..
         } => are_plain(columns.as_slice()),
-        Statement::Insert { settings, rows, .. } => {
-            are_default(settings) && rows.as_slice().len() <= MAX_ROWS
-        }
+        Statement::Insert { settings, .. } => !settings.later,
         Statement::Query { select } => is_whole_table(select),
+        Statement::ShowParts { .. } => true,
         _ => false,
     }
 }
@@ -39,18 +34,6 @@ fn is_plain(kind: &KindWord) -> bool
     ensures { result ≡ is_plain kind.now }
 {
     matches!(kind, KindWord::Plain(_))
-}
-
-// No setting says more than its default.
-fn are_default(settings: &Settings) -> bool
-    ensures { result ≡ are_default settings.now }
-{
-    settings.token.is_none()
-        && !settings.later
-        && settings.waits
-        && settings.max_rows.is_none()
-        && settings.min_rows.is_none()
-        && settings.min_bytes.is_none()
 }
 
 // `*` and a table alone.

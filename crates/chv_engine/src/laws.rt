@@ -2,7 +2,7 @@
 ghost use Rattle.std.specs.Prelude.{◌≡◌, ◌⊎◌, ◌+◌, ◌≤◌, ◌∷◌, ◌++◌, Bool, List, ℕ, length};
 ghost use Rattle.std.specs.List.{All};
 ghost use Rattle.chv_site.specs.Images.{Image};
-ghost use Rattle.chv_engine.specs.Acknowledged.{IsAcknowledged, IsHeld};
+ghost use Rattle.chv_engine.specs.Acknowledged.{IsAcknowledged, IsHeld, IsWhole, IdsNameOne};
 ghost use Rattle.chv_engine.specs.Crashes.{IsLeftBy};
 ghost use Rattle.chv_engine.specs.Histories.{History};
 ghost use Rattle.chv_engine.specs.Runs.{Event, Replied, Plan, Moment, begins, behind, run_events};
@@ -17,8 +17,15 @@ pub fn law_acknowledged()
         → IsAcknowledged plans (behind left.done first) ⊎ (left.left ≡ Replied line plans refuses ∷ ys) }
 {}
 
-/// At each moment of a run the history holds every insert that the run has acknowledged.
+/// At each moment of a run the history holds every insert that the run has acknowledged: each of its deliveries has an entry
+/// with its id.
 pub fn law_held()
     ensures { (requests : List Request) (history : History) (done left : List Event) → run_events requests (begins history) ≡ done ++ left
         → All (IsHeld (behind done (begins history)).history) (behind done (begins history)).acknowledged }
+{}
+
+/// Where ids name one entry each, every insert that a run has acknowledged stands whole.
+pub fn law_whole()
+    ensures { (requests : List Request) (history : History) (done left : List Event) → run_events requests (begins history) ≡ done ++ left
+        → IdsNameOne history done → All (IsWhole (behind done (begins history)).history) (behind done (begins history)).acknowledged }
 {}

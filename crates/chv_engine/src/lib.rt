@@ -3,25 +3,18 @@
 
 mod answer;
 mod built;
-#[cfg(test)]
-mod built_tests;
 mod create;
 mod damage;
-#[cfg(test)]
-mod damage_lines;
 mod define;
 mod fault;
 mod insert;
 mod laws;
 mod opening;
-#[cfg(test)]
-mod opening_tests;
 mod order;
+mod parts;
 mod pull;
 mod reading;
 mod run;
-#[cfg(test)]
-mod runs;
 mod say;
 mod select;
 mod status;
@@ -29,7 +22,7 @@ mod store;
 mod top;
 mod words;
 
-pub use laws::{law_acknowledged, law_held};
+pub use laws::{law_acknowledged, law_held, law_whole};
 pub use status::Status;
 pub use top::chviews;
 pub use words::{Command, Words, read_words};

@@ -1,5 +1,5 @@
 // How the store is opened.
-ghost use Rattle.std.specs.Prelude.{◌≡◌, ◌<◌, ◌≤◌, ◌+◌, ◌*◌, List, ℕ, length, IfOk, IfErr, IfSome, OnOk, IsErrOf};
+ghost use Rattle.std.specs.Prelude.{◌≡◌, ◌<◌, ◌≤◌, ◌+◌, ◌*◌, List, ℕ, length, map, IfOk, IfErr, IfSome, OnOk, IsErrOf};
 ghost use Rattle.std.specs.List.{All};
 ghost use Rattle.std.specs.declared.alloc.Global.{Global};
 ghost use Rattle.std.specs.declared.vec.Vec.{Vec};
@@ -12,9 +12,10 @@ ghost use Rattle.chv_gate.specs.Crashes.{IsLeftWith, LeavesFrames};
 ghost use Rattle.chv_gate.specs.GateLog.{HasFrames, frame_of};
 ghost use Rattle.chv_part.specs.Books.{Book};
 ghost use Rattle.chv_part.specs.declared.damage.Damage.{Damage};
-ghost use Rattle.chv_table.specs.Commits.{Commit, adds};
+ghost use Rattle.chv_commit.specs.Commits.{commit_spelling};
+ghost use Rattle.chv_commit.specs.declared.commit.Commit.{Commit};
 ghost use Rattle.chv_table.specs.Damage.{IsLogDamage};
-ghost use Rattle.chv_table.specs.Tables.{AreColumns, HoldsCommits, HoldsBook, SettlesBook, IsPlaced as IsTablePlaced};
+ghost use Rattle.chv_table.specs.Tables.{AreColumns, form_of, HoldsCommits, HoldsBook, SettlesBook, IsPlaced as IsTablePlaced};
 ghost use Rattle.chv_engine.specs.Crashes.{StandsWith};
 ghost use Rattle.chv_engine.specs.Histories.{Accepted, IsAccepted, History, Settles, tables_of, catalog_payload};
 ghost use Rattle.chv_engine.specs.Openings.{HoldsCatalog, ReadsTable, LacksTable, IsCatalogDamage, IsOpeningDamage, IsTablesDamage, OpensTable, OpensAs, catalog_fault_of, open_fault_of};
@@ -132,10 +133,10 @@ fn open_named<W: Site>(
     ensures within { IfOk result (IsHeldAs number def.now) }
     ensures placed { W.tells → IfOk result (λ table. IsTablePlaced table (W.state site.new)) }
     ensures commits { W.tells → IfOk result (λ table. (commits : List Commit) × HoldsCommits table (W.state site.new) commits
-        × HasFrames (adds 8 commits) (W.state site.old (record { table = number; part = 0 })).bytes) }
-    ensures book { W.tells → IfOk result (λ table. (book : Book) → SettlesBook number (kinds_of def.now) def.now.key (W.state site.old) book → HoldsBook table (W.state site.new) book) }
+        × HasFrames (map commit_spelling commits) (W.state site.old (record { table = number; part = 0 })).bytes) }
+    ensures book { W.tells → IfOk result (λ table. (book : Book) → SettlesBook number (form_of def.now) (W.state site.old) book → HoldsBook table (W.state site.new) book) }
     ensures damaged { W.tells → (damage : Damage) (name : Vec ℕ Global) → IsErrOf result (OpenFault.Damaged damage name)
-        → IsLogDamage number (W.state site.old (record { table = number; part = 0 })).bytes damage × (name.items ≡ def.now.name) }
+        → IsLogDamage number def.now.window (W.state site.old (record { table = number; part = 0 })).bytes damage × (name.items ≡ def.now.name) }
     // A crash at any moment of the call leaves the frames of the log from before it.
     ensures during { W.tells → (payloads : List (List ℕ)) → LeavesFrames payloads (W.state site.old (record { table = number; part = 0 }))
         → During W.moment W.left_since site.old site.new

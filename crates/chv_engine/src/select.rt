@@ -110,9 +110,9 @@ fn show_table<W: Site>(
     ensures during { W.tells → (book : Book) → HoldsBook table.now (W.state site.old) book
         → During W.moment W.left_since site.old site.new (IsLeftSaying (W.state site.old) (W.said site.old) (shown_text client table.now.key book)) }
     ensures damaged { W.tells → IsErrOf result RunFault.Damaged → (damage : Damage)
-        × IsPartDamage table.now.number table.now.kinds table.now.next_part (λ f. (W.state site.old f).bytes) damage
+        × IsPartDamage table.now.number table.now.kinds table.now.layout.items (λ f. (W.state site.old f).bytes) damage
         × (W.said site.new ≡ W.said site.old ++ damage_line damage name.now) }
-    ensures whole { W.tells → OnOk result (ArePartsWhole table.now.number table.now.kinds table.now.next_part (λ f. (W.state site.old f).bytes)) }
+    ensures whole { W.tells → OnOk result (ArePartsWhole table.now.number table.now.kinds table.now.layout.items (λ f. (W.state site.old f).bytes)) }
     ensures files { W.tells → KeepsFiles (W.state site.old) (W.state site.new) }
     ensures faults { IsCaused (W.disk_faults site.old) (W.disk_faults site.new) (W.say_faults site.old) (W.say_faults site.new) result }
 {

@@ -6,6 +6,8 @@ mod fault;
 mod file_place;
 mod folder;
 mod folder_site;
+#[cfg(test)]
+mod runs;
 mod std_source;
 #[cfg(test)]
 mod tests;

@@ -44,7 +44,7 @@ pub returns-in-Err-Damaged-clause-during : goal.returns-in-Err-Damaged-clause-du
 returns-in-Err-Damaged-clause-during g c = λ tells book held.
     let table = c.args.table.now in
     let files = g.W.Site.state c.args.site.now in
-    absurd (part_damage_excludes table.number table.kinds table.next_part (λ f. (files f).bytes) c.in-Err-Damaged.damage
+    absurd (part_damage_excludes table.number table.kinds table.layout.items (λ f. (files f).bytes) c.in-Err-Damaged.damage
     (c.in-Err-Damaged.ensures.damaged tells c.in-Err-Damaged.damage (ap Err c.in-Err-Damaged.field-0-is))
     (book_parts_whole table files book held))
 

@@ -10,9 +10,9 @@ use Rattle.chv_site.specs.During.{During}
 use Rattle.chv_text.specs.Replies.{refused_line}
 use Rattle.chv_engine.specs.Crashes.{IsLeftBy}
 use Rattle.chv_engine.specs.Histories.{tables_of}
-use Rattle.chv_engine.specs.Runs.{Event, Moment, known_events, select_events}
+use Rattle.chv_engine.specs.Runs.{Event, Moment, known_events, select_events, parts_events}
 use Rattle.chv_engine.specs.Stores.{IsAt, AnswersAs}
-use Rattle.chv_engine.proofs.KnownLemmas.{known_unbuilt, known_create, known_insert, known_query, built_form, one_query, one_statement, shows_built}
+use Rattle.chv_engine.proofs.KnownLemmas.{known_unbuilt, known_create, known_insert, known_query, known_parts, built_form, one_query, one_statement, shows_built, shows_query}
 use Rattle.chv_engine.proofs.ResultLemmas.{if_ok_is}
 use Rattle.chv_engine.proofs.StepLemmas.{replied_at, reply_during}
 use Rattle.chv_engine.proofs.store.Store.answer_statement.Goals as goal
@@ -118,6 +118,34 @@ returns-in-Query-clause-meets g c = λ tells table def line shows meets.
     c.select.ensures.meets tells table def line
     (ap (table_of c.args.self.now.schema.tables) (c.as_slice.ensures ∙ sym (ap (λ (q : Select). q.table) query)) ∙ shows.named) meets
 
+pub returns-in-ShowParts-clause-answered : goal.returns-in-ShowParts-clause-answered
+returns-in-ShowParts-clause-answered g c = λ tells.
+    let S = g.W.Site in
+    let site = c.args.site.now in
+    let now = c.show_parts.new.site in
+    let self = c.args.self.now in
+    let client = c.args.client in
+    let asked = c.args.statement.now in
+    IfOk-weaker c.show_parts.result _
+    (λ (refused : Bool). (before : List ℕ) (m : Moment) → IsAt self (S.state site) (S.said site) before m → AnswersAs self (S.state now) (S.said now) before refused (known_events client asked m.history) m)
+    (λ refused answers before m at.
+    subst (λ (events : List Event). AnswersAs self (S.state now) (S.said now) before refused events m)
+    (ap (λ (name : List ℕ). parts_events client (table_of (tables_of m.history.schema) name) m.history) c.as_slice-in-ShowParts.ensures
+    ∙ sym (known_parts client asked m.history _ (sym c.is_built.ensures ∙ c.if-not-is_built.false) c.in-ShowParts.is)) (answers before m at))
+    (c.show_parts.ensures.answered tells)
+
+pub returns-in-ShowParts-clause-during : goal.returns-in-ShowParts-clause-during
+returns-in-ShowParts-clause-during g c = λ tells before m at.
+    let S = g.W.Site in
+    let client = c.args.client in
+    subst (λ (events : List Event). During S.moment S.left_since c.args.site.now c.show_parts.new.site (IsLeftBy events before m))
+    (ap (λ (name : List ℕ). parts_events client (table_of (tables_of m.history.schema) name) m.history) c.as_slice-in-ShowParts.ensures
+    ∙ sym (known_parts client c.args.statement.now m.history _ (sym c.is_built.ensures ∙ c.if-not-is_built.false) c.in-ShowParts.is)) (c.show_parts.ensures.during tells before m at)
+
+pub returns-in-ShowParts-clause-meets : goal.returns-in-ShowParts-clause-meets
+returns-in-ShowParts-clause-meets g c = λ tells table def line shows meets.
+    absurd (shows_query c.args.statement.now c.args.self.now.schema.tables table def _ c.in-ShowParts.is shows)
+
 pub returns-in_default : goal.returns-in_default
 returns-in_default g c =
-    absurd (built_form c.args.statement.now (sym c.is_built.ensures ∙ c.if-not-is_built.false) c.in_default.not-CreateTable c.in_default.not-Insert c.in_default.not-Query)
+    absurd (built_form c.args.statement.now (sym c.is_built.ensures ∙ c.if-not-is_built.false) c.in_default.not-CreateTable c.in_default.not-Insert c.in_default.not-Query c.in_default.not-ShowParts)

@@ -17,7 +17,7 @@ use Rattle.chv_engine.specs.Stores.{IsHeldAs, IsAt, AnswersAs}
 use Rattle.chv_engine.proofs.EachTableLemmas.{each-length}
 use Rattle.chv_engine.proofs.MeetsLemmas.{part_damage_kept, tells_or_fails}
 use Rattle.chv_engine.proofs.ResultLemmas.{if_ok_is}
-use Rattle.chv_engine.proofs.ShownLemmas.{one_table, shown_held, shown_book, damage_of_def, damage_of_table}
+use Rattle.chv_engine.proofs.ShownLemmas.{one_table, shown_held, shown_book, held_key, damage_of_def, damage_of_table}
 use Rattle.chv_engine.proofs.StepLemmas.{replied_at, reply_during}
 use Rattle.chv_engine.proofs.store.Store.show.Goals as goal
 
@@ -51,7 +51,7 @@ returns-clause-answered g c = λ tells.
     let book = shown_book self number def table c.requires.first stands c.index.ensures (S.state site) m.history at.holds in
     let held = (shown_held self number def table c.requires.first stands c.index.ensures c.requires.within).1 in
     replied_at self (S.state site) (S.state now) (S.said site) (S.said now) before (shown_text client def.key (m.history.books number)) [] false m c.requires.within at (c.show_table.ensures.files tells)
-    (subst (λ (key : List ℕ). S.said now ≡ S.said site ++ shown_text client key (m.history.books number)) held.1.key_is (shown (m.history.books number) book)))
+    (subst (λ (key : List ℕ). S.said now ≡ S.said site ++ shown_text client key (m.history.books number)) (held_key number def table held) (shown (m.history.books number) book)))
     (c.show_table.ensures.shown tells) c.show_table.ensures.answer
 
 pub returns-clause-during : goal.returns-clause-during
@@ -64,7 +64,7 @@ returns-clause-during g c = λ tells before m def at stands.
     let client = c.args.client in
     let book = shown_book self number def table c.requires.first stands c.index.ensures (S.state site) m.history at.holds in
     let held = (shown_held self number def table c.requires.first stands c.index.ensures c.requires.within).1 in
-    subst (λ (key : List ℕ). During S.moment S.left_since site c.show_table.new.site (IsLeftBy (Replied (shown_text client key (m.history.books number)) [] false ∷ []) before m)) held.1.key_is
+    subst (λ (key : List ℕ). During S.moment S.left_since site c.show_table.new.site (IsLeftBy (Replied (shown_text client key (m.history.books number)) [] false ∷ []) before m)) (held_key number def table held)
     (reply_during S.moment S.left_since site c.show_table.new.site self (S.state site) (S.said site) before (shown_text client table.key (m.history.books number)) [] false m c.requires.within at
     (c.show_table.ensures.during tells (m.history.books number) book))
 
@@ -85,10 +85,10 @@ returns-clause-damaged g c = λ tells is.
       damaged = record {
         table = c.args.number;
         def = def;
-        next = table.next_part;
+        layout = table.layout.items;
         damage = told.0;
-        is = part_damage_kept c.args.number (kinds_of def) table.next_part old new told.0 (λ f. ap (λ s. s.bytes) (c.show_table.ensures.files tells f))
-            (damage_of_def c.args.number def table table.next_part old told.0 held told.1);
+        is = part_damage_kept c.args.number (kinds_of def) table.layout.items old new told.0 (λ f. ap (λ s. s.bytes) (c.show_table.ensures.files tells f))
+            (damage_of_def c.args.number def table table.layout.items old told.0 held told.1);
         told = refl;
       };
     }
@@ -99,7 +99,7 @@ returns-clause-undamaged g c = λ tells before m at is.
     let files = g.W.Site.state c.args.site.now in
     let told = c.show_table.ensures.damaged tells is in
     let book = shown_book c.args.self.now c.args.number c.table_def-def.result.now table c.requires.first c.table_def-def.ensures c.index.ensures files m.history at.holds in
-    part_damage_excludes table.number table.kinds table.next_part (λ f. (files f).bytes) told.0 told.1 (book_parts_whole table files (m.history.books c.args.number) book)
+    part_damage_excludes table.number table.kinds table.layout.items (λ f. (files f).bytes) told.0 told.1 (book_parts_whole table files (m.history.books c.args.number) book)
 
 pub returns-clause-meets : goal.returns-clause-meets
 returns-clause-meets g c = λ tells def line stands meets.
@@ -112,14 +112,14 @@ returns-clause-meets g c = λ tells def line stands meets.
     let files : FileId → List ℕ = λ f. (S.state site f).bytes in
     let held = shown_held self number def table c.requires.first stands c.index.ensures c.requires.within in
     let same : meets.held ≡ table = one_table meets.held table (sym meets.stands ∙ held.0) in
-    let damaged : IsPartDamage table.number table.kinds table.next_part files meets.damage =
-    damage_of_table number def table table.next_part files meets.damage held.1 (subst (λ (t : Table). IsPartDamage number (kinds_of def) t.next_part files meets.damage) same meets.is) in
+    let damaged : IsPartDamage table.number table.kinds table.layout.items files meets.damage =
+    damage_of_table number def table table.layout.items files meets.damage held.1 (subst (λ (t : Table). IsPartDamage number (kinds_of def) t.layout.items files meets.damage) same meets.is) in
     let one_def : c.table_def-def.result.now ≡ def = one_definition c.table_def-def.result.now def (sym c.table_def-def.ensures ∙ stands) in
-    tells_or_fails c.show_table.result (ArePartsWhole table.number table.kinds table.next_part files) (S.said site) (S.said now) line
-    (c.show_table.ensures.whole tells) (part_damage_excludes table.number table.kinds table.next_part files meets.damage damaged)
+    tells_or_fails c.show_table.result (ArePartsWhole table.number table.kinds table.layout.items files) (S.said site) (S.said now) line
+    (c.show_table.ensures.whole tells) (part_damage_excludes table.number table.kinds table.layout.items files meets.damage damaged)
     (λ is.
     let told = c.show_table.ensures.damaged tells is in
-    let one = part_damage_unique table.number table.kinds table.next_part files told.0 meets.damage told.1 damaged in
+    let one = part_damage_unique table.number table.kinds table.layout.items files told.0 meets.damage told.1 damaged in
     told.2
     ∙ ap (λ (d : Damage). S.said site ++ damage_line d c.as_slice.result.now) one
     ∙ ap (λ (n : List ℕ). S.said site ++ damage_line meets.damage n) (c.as_slice.ensures ∙ ap (λ (d : TableDef). d.name) one_def)
