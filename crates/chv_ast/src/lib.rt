@@ -17,6 +17,3 @@ pub use statement::{
     Orders, Select, Settings, Statement,
 };
 pub use token::TokenKind;
-
-#[cfg(test)]
-mod tests;

@@ -16,6 +16,3 @@ pub use read::read_value;
 pub use size::row_size;
 pub use spell::spell_value;
 pub use squasher::{Sizes, Squasher};
-
-#[cfg(test)]
-mod tests;

@@ -5,8 +5,6 @@ mod fixed;
 mod integer;
 mod laws;
 mod run;
-#[cfg(test)]
-mod tests;
 
 pub use fixed::{Fixed, fix, read_fixed, unfix};
 pub use integer::{IntKind, put_int, read_int};

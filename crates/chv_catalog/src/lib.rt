@@ -7,6 +7,3 @@ mod table_def;
 
 pub use schema::Schema;
 pub use table_def::TableDef;
-
-#[cfg(test)]
-mod tests;

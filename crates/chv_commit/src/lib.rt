@@ -15,6 +15,3 @@ pub use part_row::PartRow;
 pub use reading::read_commit;
 pub use replay::{MAX_ENTRIES, Replay};
 pub use spelling::{frame_of_one, spell};
-
-#[cfg(test)]
-mod tests;

@@ -11,6 +11,3 @@ mod table;
 pub use digits::number_up_to;
 pub use fault::DefineFault;
 pub use table::define;
-
-#[cfg(test)]
-mod tests;

@@ -13,6 +13,3 @@ pub use fault::GateFault;
 pub use framing::frame;
 pub use log::Log;
 pub use reading::{GateRead, step};
-
-#[cfg(test)]
-mod tests;

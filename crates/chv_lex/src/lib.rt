@@ -14,6 +14,3 @@ pub use laws::{law_tokens_of, law_written_is_formed};
 pub use piece::Piece;
 pub use script::cut_script;
 pub use token::{LexFault, Token, tokens};
-
-#[cfg(test)]
-mod tests;

@@ -6,6 +6,3 @@ mod normal_form;
 
 pub use laws::law_normal_form;
 pub use normal_form::normal;
-
-#[cfg(test)]
-mod tests;

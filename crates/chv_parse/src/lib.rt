@@ -17,6 +17,3 @@ mod token_text;
 pub use fault::ParseFault;
 pub use laws::{law_one_tree, law_statement_in};
 pub use statements::statement;
-
-#[cfg(test)]
-mod tests;

@@ -12,6 +12,3 @@ pub use encoding::encode_part;
 pub use laws::{law_lawful_books, law_part_reads_back};
 pub use reading::{PartFault, read_part};
 pub use writing::write_part;
-
-#[cfg(test)]
-mod tests;

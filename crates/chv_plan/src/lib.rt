@@ -12,6 +12,3 @@ mod settings;
 pub use delivery::{Deliveries, Delivery, Plan};
 pub use fault::PlanFault;
 pub use insert::plan_insert;
-
-#[cfg(test)]
-mod tests;

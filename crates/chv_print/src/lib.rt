@@ -11,6 +11,3 @@ mod statement;
 
 pub use expr::expr_text;
 pub use statement::statement_text;
-
-#[cfg(test)]
-mod tests;

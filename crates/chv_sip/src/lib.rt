@@ -5,8 +5,6 @@ mod block_id;
 mod laws;
 mod sip;
 mod state;
-#[cfg(test)]
-mod tests;
 
 pub use block_id::{BlockId, body_hash, id_of_content, id_of_token};
 pub use laws::law_last_ids;

@@ -24,6 +24,3 @@ pub use mem_source::MemSource;
 pub use pick::Pick;
 pub use site::Site;
 pub use source::Source;
-
-#[cfg(test)]
-mod tests;

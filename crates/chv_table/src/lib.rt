@@ -9,8 +9,3 @@ mod table;
 pub use fault::{PutFault, TableFault};
 pub use opening::{begin_table, open_table};
 pub use table::{Delivered, Table};
-
-#[cfg(test)]
-mod opening_tests;
-#[cfg(test)]
-mod table_tests;

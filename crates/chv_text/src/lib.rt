@@ -6,6 +6,3 @@ mod rows;
 
 pub use line::{Line, line_insert, line_ok, line_refused, line_rows};
 pub use rows::rows_text;
-
-#[cfg(test)]
-mod tests;

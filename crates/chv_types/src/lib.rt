@@ -16,6 +16,3 @@ pub use order::{compare, law_order, law_order_within_kinds};
 pub use table::{Block, Bytes, Column, Columns, Engine, Kinds, Places, Row};
 pub use text::{MAX_TEXT, TextFault, parse_text};
 pub use value::{Value, default_value};
-
-#[cfg(test)]
-mod tests;

@@ -1,0 +1,15 @@
+//! Tests of the crates that keep files: sites, gate logs, parts and tables.
+#![tactic(auto)]
+
+#[cfg(test)]
+mod gate;
+#[cfg(test)]
+mod making;
+#[cfg(test)]
+mod opening;
+#[cfg(test)]
+mod part;
+#[cfg(test)]
+mod site;
+#[cfg(test)]
+mod table;

@@ -1,0 +1,11 @@
+//! Tests of the language, through the public calls of its crates.
+#![tactic(auto)]
+
+#[cfg(test)]
+mod lex;
+#[cfg(test)]
+mod lists;
+#[cfg(test)]
+mod refusals;
+#[cfg(test)]
+mod statements;

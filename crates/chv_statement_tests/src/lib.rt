@@ -1,0 +1,11 @@
+//! The tests of the crates that read statements against the schema.
+#![tactic(auto)]
+
+#[cfg(test)]
+mod definitions;
+#[cfg(test)]
+mod inserts;
+#[cfg(test)]
+mod making;
+#[cfg(test)]
+mod tables;
