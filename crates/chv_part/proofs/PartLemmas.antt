@@ -1,5 +1,5 @@
 -- The files of parts, and that each is read in one way.
-use Rattle.std.proofs.Common.{◌≡◌, ◌≢◌, ℕ, ◌*◌, ◌/◌, ◌^◌, ◌<◌, ◌≤◌, List, [], ◌++◌, length, drop, codes, refl, sym, ap, ◌∙◌, arith, append_assoc}
+use Rattle.std.proofs.Common.{◌≡◌, ◌≢◌, ℕ, ◌+◌, ◌-◌, ◌*◌, ◌/◌, ◌^◌, ◌<◌, ◌≤◌, min, List, [], ◌++◌, length, take, drop, codes, refl, sym, ap, ◌∙◌, arith, append_assoc, length-append}
 use Rattle.std.proofs.Math.Nat.{le-div_iff_mul-le}
 use Rattle.std.specs.Int.{w32, w64, to_le_bytes}
 use Rattle.byteorder.specs.Endian.{little_number}
@@ -10,7 +10,7 @@ use Rattle.chv_bytes.proofs.NumberLemmas.{same_split}
 use Rattle.chv_block.specs.Spellings.{AllAreOf, codes_of}
 use Rattle.chv_sip.specs.BlockIds.{keyed_hash, first_key}
 use Rattle.chv_part.specs.Columns.{head_spelling}
-use Rattle.chv_part.specs.Parts.{columns_spelling, part_body, framed, part_frame, part_file, HashDiffers, IsShapeless}
+use Rattle.chv_part.specs.Parts.{columns_spelling, part_body, frame_head, framed, part_frame, part_file, HashDiffers, IsShapeless}
 use Rattle.chv_part.proofs.ColumnLemmas.{one_table}
 use Rattle.chv_part.proofs.RoomLemmas.{columns_fit, rows_fit}
 
@@ -33,6 +33,23 @@ misframed file body size kept spelled of_size of_length differ other b same =
     let long : length b < 2 ^ 64 = omega (arith, ap length alike) in
     let sizes = number-unique size (length b) (to_le_bytes w64 kept ++ body) (to_le_bytes w64 other ++ b) of_size long (ap (λ (l : List ℕ). drop 8 l) (sym spelled ∙ same)) in
     differ (sizes.0 ∙ ap length (sym alike))
+
+-- a file that begins with no head of a frame of its length is not framed
+pub no_frame : (file head : List ℕ) (size count : ℕ) → size ≡ length file → count ≡ min 24 size → head ≡ take count file → (24 ≤ size → (kept : ℕ) → head ≢ frame_head (size - 24) kept)
+    → (kept : ℕ) (body : List ℕ) → file ≢ framed kept body
+no_frame file head size count long counts front none kept body same =
+    let whole : length file ≡ 24 + length body = omega (arith, ap length same, length-append {A = ℕ}) in
+    let sized : length body ≡ size - 24 = omega (arith, long, whole) in
+    let full : count ≡ 24 = omega (arith, counts, long, whole) in
+    none (omega (arith, long, whole)) kept
+    (front ∙ ap (λ (n : ℕ). take n file) full ∙ ap (λ (l : List ℕ). take 24 l) same ∙ ap (λ (n : ℕ). frame_head n kept) sized)
+
+-- a head tells one length, and has nothing behind the hash
+pub fits_head : (head rest : List ℕ) (size length kept other : ℕ) → size < 2 ^ 64 → length < 2 ^ 64 → head ≡ codes "CHVPART1" ++ (to_le_bytes w64 length ++ (to_le_bytes w64 kept ++ rest)) → head ≡ frame_head size other
+    → (length ≡ size) × (rest ≡ [])
+fits_head head rest size length kept other of_size of_length spelled same =
+    let sizes = number-unique length size (to_le_bytes w64 kept ++ rest) (to_le_bytes w64 other) of_length of_size (ap (λ (l : List ℕ). drop 8 l) (sym spelled ∙ same)) in
+    (sizes.0, ap (λ (l : List ℕ). drop 8 l) sizes.1)
 
 -- a file without a frame is no part's
 pub frameless : (kinds : List Kind) (file : List ℕ) → ((kept : ℕ) (body : List ℕ) → file ≢ framed kept body) → IsShapeless kinds file

@@ -28,6 +28,10 @@ abbrev pub part_body : List Kind → List (List Value) → List ℕ
 part_body kinds rows =
     to_le_bytes w32 (length kinds) ++ codes_of kinds ++ to_le_bytes w64 (length rows) ++ columns_spelling 0 kinds rows
 
+-- what stands in front of a body: a mark, the length of the body, and a hash
+abbrev pub frame_head : ℕ → ℕ → List ℕ
+frame_head size kept = codes "CHVPART1" ++ to_le_bytes w64 size ++ to_le_bytes w64 kept
+
 -- a body in a frame that keeps this hash: a mark, the body's length, the hash, and the body
 abbrev pub framed : ℕ → List ℕ → List ℕ
 framed kept body = codes "CHVPART1" ++ to_le_bytes w64 (length body) ++ to_le_bytes w64 kept ++ body

@@ -1,7 +1,7 @@
 // How the file of a part is read back.
-ghost use Rattle.std.specs.Prelude.{◌≡◌, ◌≢◌, ◌++◌, ◌+◌, ◌*◌, ◌<◌, ◌≤◌, ◌^◌, List, ℕ, length, IfOk, IfErr, IfSome, IsNone, IsErrOf, [], drop};
+ghost use Rattle.std.specs.Prelude.{◌≡◌, ◌≢◌, ◌++◌, ◌+◌, ◌-◌, ◌*◌, ◌<◌, ◌≤◌, ◌^◌, List, ℕ, true, length, IfOk, IfErr, IfSome, IsNone, IsErrOf, [], drop};
 ghost use Rattle.std.specs.Int.{w64, to_le_bytes};
-ghost use Rattle.chv_site.specs.Faults.{HasRisen};
+ghost use Rattle.chv_site.specs.Faults.{HasRisen, IsCounted};
 ghost use Rattle.chv_site.specs.Files.{KeepsFiles};
 ghost use Rattle.chv_site.specs.Images.{IsLeft};
 ghost use Rattle.chv_site.specs.During.{During};
@@ -10,9 +10,9 @@ ghost use Rattle.chv_types.specs.Values.{IsPlain};
 ghost use Rattle.chv_types.specs.declared.value.Value.{Value};
 ghost use Rattle.chv_block.specs.Spellings.{AllAreOf};
 ghost use Rattle.chv_part.specs.Columns.{ColumnIsOf, HasGained, head_spelling};
-ghost use Rattle.chv_part.specs.Parts.{column_spelling, columns_spelling, part_body, framed, part_frame, part_file, HashDiffers, IsShapeless, IsDamage};
+ghost use Rattle.chv_part.specs.Parts.{column_spelling, columns_spelling, part_body, frame_head, framed, part_frame, part_file, HashDiffers, IsShapeless, IsDamage};
 
-use crate::encoding::MARK;
+use crate::encoding::{FRAME_BYTES, MARK};
 use byteorder::{ByteOrder, LittleEndian};
 use chv_block::{put_kinds, read_value};
 use chv_sip::body_hash;
@@ -58,7 +58,7 @@ impl From<AllocError> for PartFault {
 /// The rows of a part of a table with columns of these kinds, in the order that they have there. It changes no file.
 ///
 /// A file that is absent, cut short or of other kinds has no shape. No length in it is trusted: memory is taken for the
-/// bytes that the file has, and for as many rows as its body has room for.
+/// file once its frame has the length that the file has, and for as many rows as the body has room for.
 pub fn read_part<W: Site>(
     alloc: Global,
     site: &mut W,
@@ -84,8 +84,65 @@ pub fn read_part<W: Site>(
     part_rows(alloc, &file, kinds)
 }
 
-// The bytes of a file, which are read into one buffer of its size.
+// The bytes of a file, where its frame has its length: memory is taken behind that.
 fn read_file<W: Site>(alloc: Global, site: &mut W, f: FileId) -> Result<Vec<u8>, PartFault>
+    ensures read { W.tells → IfOk result (λ file. file.items ≡ (W.state site.old f).bytes) }
+    ensures shape { W.tells → IsErrOf result PartFault.Shape → (kept : ℕ) (body : List ℕ) → (W.state site.old f).bytes ≢ framed kept body }
+    ensures files { W.tells → KeepsFiles (W.state site.old) (W.state site.new) }
+    ensures said { W.tells → W.said site.new ≡ W.said site.old }
+    ensures during { W.tells → During W.moment W.left_since site.old site.new (IsLeft (W.state site.old) (W.said site.old)) }
+    ensures faults { W.disk_faults site.old ≤ W.disk_faults site.new }
+    ensures failed { IsErrOf result PartFault.Failed → HasRisen (W.disk_faults site.old) (W.disk_faults site.new) }
+    ensures unhashed { (kept found : ℕ) → IsErrOf result (PartFault.Hash kept found) → ⊥ }
+    ensures other_faults { W.say_faults site.new ≡ W.say_faults site.old }
+{
+    match framed_size(site, f)? {
+        Some(size) => read_whole(alloc, site, f, size),
+        None => Err(PartFault::Shape),
+    }
+}
+
+// The length of a file, where the frame that it begins with has it.
+fn framed_size<W: Site>(site: &mut W, f: FileId) -> Result<Option<u64>, Failed>
+    ensures size { W.tells → IfOk result (λ read. IfSome read (λ size. size ≡ length (W.state site.old f).bytes)) }
+    ensures none { W.tells → IfOk result (λ read. IsNone read → (kept : ℕ) (body : List ℕ) → (W.state site.old f).bytes ≢ framed kept body) }
+    ensures files { W.tells → KeepsFiles (W.state site.old) (W.state site.new) }
+    ensures said { W.tells → W.said site.new ≡ W.said site.old }
+    ensures during { W.tells → During W.moment W.left_since site.old site.new (IsLeft (W.state site.old) (W.said site.old)) }
+    ensures failed { IsCounted (W.disk_faults site.old) (W.disk_faults site.new) result }
+    ensures other_faults { W.say_faults site.new ≡ W.say_faults site.old }
+{
+    let size = site.size(f)?;
+    let mut head = [0u8; FRAME_BYTES];
+    let count = site.fetch(f, 0, &mut head)?;
+    match kept_hash(&head[..count], size) {
+        Some(_) => Ok(Some(size)),
+        None => Ok(None),
+    }
+}
+
+// The hash that the head of a frame keeps, where it is the head of a file of this size.
+fn kept_hash(head: &[u8], size: u64) -> Option<u64>
+    ensures some { IfSome result (λ kept. (FRAME_BYTES ≤ size) × (head.now ≡ frame_head (size - FRAME_BYTES) kept)) }
+    ensures none { IsNone result → FRAME_BYTES ≤ size → (kept : ℕ) → head.now ≢ frame_head (size - FRAME_BYTES) kept }
+{
+    let rest = head.strip_prefix(&MARK)?;
+    let (length, rest) = split_number(rest)?;
+    let (kept, rest) = split_number(rest)?;
+    if !rest.is_empty() || size < FRAME_BYTES as u64 || length != size - FRAME_BYTES as u64 {
+        return None;
+    }
+    Some(kept)
+}
+
+// The bytes of a file of this length, which are read into one buffer.
+fn read_whole<W: Site>(
+    alloc: Global,
+    site: &mut W,
+    f: FileId,
+    size: u64,
+) -> Result<Vec<u8>, PartFault>
+    requires size { W.tells → size ≡ length (W.state site.old f).bytes }
     ensures read { W.tells → IfOk result (λ file. file.items ≡ (W.state site.old f).bytes) }
     ensures files { W.tells → KeepsFiles (W.state site.old) (W.state site.new) }
     ensures said { W.tells → W.said site.new ≡ W.said site.old }
@@ -95,7 +152,6 @@ fn read_file<W: Site>(alloc: Global, site: &mut W, f: FileId) -> Result<Vec<u8>,
     ensures undamaged { IfErr result (λ fault. ¬ IsDamage fault) }
     ensures other_faults { W.say_faults site.new ≡ W.say_faults site.old }
 {
-    let size = site.size(f)?;
     let mut file = vec![in alloc; 0u8; size as usize]?;
     let count = site.fetch(f, 0, &mut file)?;
     file.truncate(count);

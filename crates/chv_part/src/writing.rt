@@ -17,6 +17,7 @@ pub fn write_part<W: Site>(site: &mut W, f: FileId, bytes: &[u8]) -> Result<(), 
     ensures failed { IsCounted (W.disk_faults site.old) (W.disk_faults site.new) result }
     ensures other_faults { W.say_faults site.new ≡ W.say_faults site.old }
 {
+    // A run that was stopped in front of its commit may have left a longer file under this number.
     site.cut(f, 0)?;
     site.put(f, 0, bytes)?;
     site.sync(f)
