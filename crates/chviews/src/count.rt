@@ -14,6 +14,7 @@ pub fn counted<T>(count: &mut u64, answer: io::Result<T>) -> Result<T, Failed>
     match answer {
         Ok(x) => Ok(x),
         Err(_) => {
+            // A count that stands at its greatest number counts as risen, so it may stay there.
             *count = count.saturating_add(1);
             Err(Failed)
         }

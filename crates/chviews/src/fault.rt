@@ -5,13 +5,15 @@ ghost use Rattle.chviews.specs.Statuses.{CameToItsEnd};
 use chv_engine::Status;
 use thiserror::Error;
 
-/// Why a run did not come to its end, each shown by its name.
+/// Why a run did not come to its end, as standard error is told.
 #[derive(Clone, Copy, Debug, Drop, Error)]
 pub enum Fault {
     #[error("BadWords")]
     BadWords,
     #[error("DiskFault")]
     DiskFault,
+    #[error("DiskFault: another run has this store open")]
+    Taken,
     #[error("SourceFault")]
     SourceFault,
     #[error("SayFault")]
@@ -24,13 +26,14 @@ pub enum Fault {
     TooLong,
 }
 
-/// The fault of a status, by its name.
-pub fn fault_of(status: Status) -> Option<Fault>
+/// The fault of a status, and of a disk fault whether it came of a store that another run has open.
+pub fn fault_of(status: Status, is_taken: bool) -> Option<Fault>
     ensures { IsNone result ↔ CameToItsEnd status }
 {
     match status {
         Status::Done | Status::SomeRefused => None,
         Status::BadWords => Some(Fault::BadWords),
+        Status::DiskFault if is_taken => Some(Fault::Taken),
         Status::DiskFault => Some(Fault::DiskFault),
         Status::SourceFault => Some(Fault::SourceFault),
         Status::SayFault => Some(Fault::SayFault),

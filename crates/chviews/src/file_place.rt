@@ -21,6 +21,7 @@ impl<'f, F: FileExt> FilePlace<'f, F> {
 
 impl<F: FileExt> Read for FilePlace<'_, F> {
     fn read(&mut self, buf: &mut [u8]) -> io::Result<usize> {
+        // The system would refuse such a place, behind which no file goes on.
         if self.place > MAX_LEN {
             return Ok(0);
         }

@@ -7,16 +7,16 @@ ghost use Rattle.chv_site.specs.Laws.{settled_lengths};
 
 use crate::count::counted;
 use crate::folder::Folder;
+use crate::store_file::StoreFile;
 use crate::transfer::write_whole;
 use chv_site::{Failed, FileId, Site};
 use std::io;
-use std::os::unix::fs::FileExt;
 use std::rt::Files;
 
 /// The files of the folder `chviews-data`, and standard output as the console.
 /// What they hold is told by nothing.
 #[derive(Drop)]
-pub struct FolderSite<'a, R> {
+pub struct FolderSite<'a, R: Files> {
     rt: &'a R,
     folder: Folder<'a, R>,
     disk_faults: u64,
@@ -25,7 +25,7 @@ pub struct FolderSite<'a, R> {
 
 impl<'a, R: Files + Print + AllocGlobal> FolderSite<'a, R>
 where
-    R::File: FileExt,
+    R::File: StoreFile,
 {
     pub fn new(rt: &'a R) -> FolderSite<'a, R>
         ensures disk_faults { result.disk_faults ≡ 0 }
@@ -38,12 +38,18 @@ where
             say_faults: 0,
         }
     }
+
+    /// Whether a call failed since another run has the store open.
+    pub fn is_taken(&self) -> bool {
+        self.folder.is_taken()
+    }
 }
 
 impl<'a, R: Files + Print + AllocGlobal> Site for FolderSite<'a, R>
 where
-    R::File: FileExt,
+    R::File: StoreFile,
 {
+    // No contract of std says what a file of the system holds, so nothing is claimed of it here.
     ghost tells = { ⊥ };
 
     ghost state = { λ _ _. settled [] };

@@ -2,13 +2,22 @@
 #![tactic(auto)]
 
 mod count;
+#[cfg(test)]
+mod ends;
+#[cfg(test)]
+mod fake_system;
 mod fault;
 mod file_place;
 mod folder;
 mod folder_site;
 #[cfg(test)]
+mod folder_tests;
+#[cfg(test)]
+mod openings;
+#[cfg(test)]
 mod runs;
 mod std_source;
+mod store_file;
 #[cfg(test)]
 mod tests;
 mod transfer;
@@ -21,11 +30,11 @@ ghost use Rattle.chv_engine.specs.declared.Status.TheVariants as status;
 use chv_engine::{Status, Words, chviews};
 use fault::fault_of;
 use folder_site::FolderSite;
-use std::os::unix::fs::FileExt;
 use std::process::ExitCode;
 use std::rt::{Env, Files};
 use std::{env, io};
 use std_source::StdSource;
+use store_file::StoreFile;
 
 const USAGE: &str = "usage: chviews run < script.sql
     runs the statements of a script on the store in ./chviews-data, and prints a reply to each";
@@ -39,6 +48,7 @@ fn words<R: Env + AllocGlobal>(rt: &R) -> Result<Words, Status>
         Err(e) if e.kind() == io::ErrorKind::InvalidData => return Err(Status::BadWords),
         Err(_) => return Err(Status::NoMemory),
     };
+    // The program's own path, which has to be UTF-8 too.
     args.next();
     match args.collect(rt.alloc()) {
         Ok(items) => Ok(Words { items }),
@@ -46,26 +56,40 @@ fn words<R: Env + AllocGlobal>(rt: &R) -> Result<Words, Status>
     }
 }
 
-fn run<R: Env + Input + Files + Print + AllocGlobal>(rt: &R) -> Status
+/// How a run ended, and whether it found that another run has the store open.
+#[derive(Clone, Copy)]
+struct Ended {
+    status: Status,
+    is_taken: bool,
+}
+
+fn run<R: Env + Input + Files + Print + AllocGlobal>(rt: &R) -> Ended
 where
-    R::File: FileExt,
+    R::File: StoreFile,
 {
     match words(rt) {
         Ok(words) => {
             let mut source = StdSource::new(rt.reader());
             let mut site = FolderSite::new(rt);
-            chviews(rt.alloc(), &words, &mut source, &mut site)
+            let status = chviews(rt.alloc(), &words, &mut source, &mut site);
+            // To the run it is one more call on files that failed; here the two are told apart.
+            let is_taken = site.is_taken();
+            Ended { status, is_taken }
         }
-        Err(status) => status,
+        Err(status) => Ended {
+            status,
+            is_taken: false,
+        },
     }
 }
 
 /// Ends with a status. Why a run did not come to its end is said on standard error, and where that
 /// fails, nobody is left to be told.
-fn end<R: Eprint>(rt: &R, status: Status) -> ExitCode
-    ensures { exit_status result ≡ exit_status_of status }
+fn end<R: Eprint>(rt: &R, ended: Ended) -> ExitCode
+    ensures { exit_status result ≡ exit_status_of ended.status }
 {
-    if let Some(fault) = fault_of(status) {
+    let Ended { status, is_taken } = ended;
+    if let Some(fault) = fault_of(status, is_taken) {
         let _ = eprintln!(rt; "chviews: {fault}");
     }
     if status == Status::BadWords {
@@ -75,6 +99,6 @@ fn end<R: Eprint>(rt: &R, status: Status) -> ExitCode
 }
 
 fn main(rt: HostRuntime) -> ExitCode {
-    let status = run(&rt);
-    end(&rt, status)
+    let ended = run(&rt);
+    end(&rt, ended)
 }

@@ -31,6 +31,7 @@ impl<I: Read> Source for StdSource<I> {
     ghost faults = { λ s. s.faults };
 
     fn pull(&mut self, buf: &mut [u8]) -> Result<usize, Failed> {
+        // One read alone, which may be short: whoever pulls goes on until nothing comes.
         let answer = self.input.read(buf);
         counted(&mut self.faults, answer)
     }

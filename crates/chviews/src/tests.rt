@@ -1,12 +1,10 @@
-// What no clause shows: that the calls reach the system, whole, and the text of each fault.
+// What no clause shows: that the calls reach the system, whole.
 ghost use Rattle.std.specs.Prelude.{◌≤◌, IfOk};
 
-use crate::fault::fault_of;
 use crate::file_place::FilePlace;
 use crate::folder_site::FolderSite;
 use crate::std_source::StdSource;
 use crate::transfer::{read_whole, write_whole};
-use chv_engine::Status;
 use chv_site::{FileId, Site, Source};
 use std::cell::Cell;
 use std::os::unix::fs::FileExt;
@@ -17,13 +15,13 @@ use std::{env, fs, io};
 // The working folder of one test, which is left empty of what the test made.
 const HOME: &str = "chviews-test";
 
-fn enter<R: Files + Env + AllocGlobal>(rt: &R) -> io::Result<()> {
+pub fn enter<R: Files + Env + AllocGlobal>(rt: &R) -> io::Result<()> {
     let _ = fs::remove_dir_all(rt, HOME);
     fs::create_dir(rt, HOME)?;
     env::set_current_dir(rt, HOME)
 }
 
-fn leave<R: Files + Env + AllocGlobal>(rt: &R) -> io::Result<()> {
+pub fn leave<R: Files + Env + AllocGlobal>(rt: &R) -> io::Result<()> {
     env::set_current_dir(rt, "..")?;
     fs::remove_dir_all(rt, HOME)
 }
@@ -125,25 +123,5 @@ fn short_reads_and_writes_go_on_at_the_next_place(rt: HostRuntime) -> Result<(),
     let file = Short::new();
     write_whole(&mut FilePlace::new(&file, 0), &buf[..10])?;
     assert_eq!(rt; file.moved.get(), 10);
-    Ok(())
-}
-
-#[test]
-fn a_fault_is_shown_by_its_name(rt: HostRuntime) -> Result<(), Fail> {
-    for (status, name) in [
-        (Status::BadWords, "BadWords"),
-        (Status::DiskFault, "DiskFault"),
-        (Status::SourceFault, "SourceFault"),
-        (Status::SayFault, "SayFault"),
-        (Status::Damaged, "Damaged"),
-        (Status::NoMemory, "NoMemory"),
-        (Status::TooLong, "TooLong"),
-    ] {
-        let Some(fault) = fault_of(status) else {
-            panic!(rt; "no fault for {name}");
-        };
-        let shown = format!(in rt.alloc(); "{fault}")?;
-        assert_eq!(rt; shown.as_str(), name);
-    }
     Ok(())
 }

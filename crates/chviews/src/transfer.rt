@@ -30,6 +30,7 @@ pub fn write_whole<W: Write>(to: &mut W, bytes: &[u8]) -> io::Result<()>
     let mut done = 0;
     while done < bytes.len() {
         let n = to.write(&bytes[done..])?;
+        // A writer that takes nothing would be asked for ever.
         if n == 0 {
             return Err(ErrorKind::WriteZero.into());
         }
