@@ -108,6 +108,7 @@ impl Store {
         self.schema.reserve_one(alloc, def.name.as_slice())?;
         self.tables.reserve(1)?;
         let number = self.schema.tables() + 1;
+        // A table that stands in the catalog has a log that is begun; one that does not may have it too.
         let table = begin_table(alloc, site, number, &def)?;
         self.catalog.append(site, &frame)?;
         self.schema.accept(def);

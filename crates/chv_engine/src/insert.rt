@@ -80,6 +80,7 @@ impl Store {
     {
         let count = plan.len() as u64;
         if !self.reserve(plan[0].table, count)? {
+            // No block was delivered yet, so nothing has to be taken back.
             return refuse(site, client, Refusal::LimitPassed);
         }
         let written = self.deliver_all(site, plan)?;

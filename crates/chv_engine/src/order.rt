@@ -42,6 +42,7 @@ fn next_of(pieces: &[Piece], client: u8, place: usize) -> Option<(Piece, usize)>
     }
 }
 
+// It goes over all pieces that are left: clients are few, and a list for each would take memory.
 fn first_of(pieces: &[Piece], client: u8) -> Option<usize>
     ensures { result ≡ position (λ piece. piece.client == client) pieces.now }
 {

@@ -59,6 +59,7 @@ pub fn pull_script<S: Source>(alloc: Global, source: &mut S) -> Result<Vec<u8>, 
         if count == 0 {
             return Ok(script);
         }
+        // Compared before it is kept: the longest script bounds the memory.
         if count > MAX_SCRIPT - script.len() {
             return Err(PullFault::TooLong);
         }

@@ -171,6 +171,7 @@ fn delivery_of(
 {
     let id = block_id(alloc, kinds, token, number, &block)?;
     let rows = normal(key, block)?;
+    // Whether the block is skipped is decided as it is delivered, and no delivery takes memory.
     let encoded = encode_part(alloc, kinds, &rows)?;
     Ok(Delivery {
         table,

@@ -97,6 +97,7 @@ pub fn open_table<W: Site>(
     ensures other_faults { W.say_faults site.new ≡ W.say_faults site.old }
 {
     let file = FileId::table_log(number);
+    // All ids that are to be kept have their room before a file is touched.
     let mut replay = Replay::new(alloc, def.window)?;
     begin(site, file)?;
     let mut gate = 0;

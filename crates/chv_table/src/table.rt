@@ -134,6 +134,7 @@ impl Table {
         ensures failed { IsCounted (W.disk_faults site.old) (W.disk_faults site.new) result }
         ensures other_faults { W.say_faults site.new ≡ W.say_faults site.old }
     {
+        // The part first: a commit that a crash left without its part would be damage.
         let part = FileId::part(self.number, self.next_part);
         write_part(site, part, encoded)?;
         self.log
