@@ -24,12 +24,12 @@ use Rattle.chv_define.specs.Checks.{checked_key, checked_names, checked_text, ch
 use Rattle.chv_define.specs.Definitions.{IsPlainWord, and_then, columns_of, defined, engine_of, kind_of, or_refuse, places_of, refuse_if, scalar_of, window_of}
 
 -- what follows a step is made where the step is
-and_then-Ok : {A B : Type 0} (r : Result A Refusal) (rest : A → Result B Refusal) (b : B) → and_then r rest ≡ Ok b → (a : A) × (r ≡ Ok a) × (rest a ≡ Ok b)
+pub and_then-Ok : {A B : Type 0} (r : Result A Refusal) (rest : A → Result B Refusal) (b : B) → and_then r rest ≡ Ok b → (a : A) × (r ≡ Ok a) × (rest a ≡ Ok b)
 and_then-Ok (Ok a) rest b h = (a, refl, h)
 and_then-Ok (Err refusal) rest b h = absurd cc
 
 -- a check that passes found nothing bad, and what follows it passes
-refuse_if-Ok : {A : Type 0} (bad : Bool) (refusal : Refusal) (rest : Result A Refusal) (a : A) → refuse_if bad refusal rest ≡ Ok a → (bad ≡ false) × (rest ≡ Ok a)
+pub refuse_if-Ok : {A : Type 0} (bad : Bool) (refusal : Refusal) (rest : Result A Refusal) (a : A) → refuse_if bad refusal rest ≡ Ok a → (bad ≡ false) × (rest ≡ Ok a)
 refuse_if-Ok false refusal rest a h = (refl, h)
 refuse_if-Ok true refusal rest a h = absurd cc
 

@@ -1,3 +1,4 @@
+pub mod AcceptedLemmas
 pub mod DefinitionLemmas
 pub mod KindLemmas
 pub mod ListLemmas

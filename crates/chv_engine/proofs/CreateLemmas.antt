@@ -1,242 +1,235 @@
--- What a crash while a table is made leaves of the store, and what the store holds once it is made.
-use Rattle.std.proofs.Common.{◌≡◌, ◌≢◌, ◌⊎◌, inl, inr, ℕ, ◌+◌, ◌<◌, ◌≤◌, List, [], ◌∷◌, ◌++◌, length, map, slice_get, Some, Bool, true, false, cond, refl, sym, ap, subst, ◌∙◌, arith, length-append}
-use Rattle.std.proofs.Math.Seq.{drop-nil}
+-- A table is made: what that does to the moment that a store is at, to what is held, and to what a crash leaves.
+use Rattle.std.proofs.Common.{◌≡◌, ◌⊎◌, inl, inr, ℕ, zero, suc, ◌+◌, ◌-◌, ◌<◌, ◌≤◌, Bool, false, List, [], ◌∷◌, ◌++◌, length, map, get_or, Ok, Err, OnOk, refl, sym, ap, subst, ◌∙◌, arith}
+use Rattle.std.specs.Prelude.{Result, IsErrOf}
 use Rattle.std.proofs.lemmas.Bool.{cases_eq}
-use Rattle.std.proofs.lemmas.List.{length-map, map-append}
-use Rattle.std.proofs.lemmas.List.Elements.{All-nil, All-push}
-use Rattle.std.specs.List.{All}
-use Rattle.std.proofs.lemmas.Option.{slice_get_within}
+use Rattle.std.proofs.lemmas.List.{get_or_past, length-append, length-map, map_push}
+use Rattle.chv_ast.specs.declared.refusal.Refusal.{Refusal}
+use Rattle.chv_ast.specs.declared.statement.Statement.{Statement}
 use Rattle.chv_catalog.specs.declared.table_def.TableDef.{TableDef}
-use Rattle.chv_site.specs.declared.file_id.FileId.{FileId}
-use Rattle.chv_site.specs.Files.{FileState, settled}
-use Rattle.chv_site.specs.Images.{Image, IsFileImage, IsLeft, HasLengths}
+use Rattle.chv_commit.specs.Replays.{State, no_state}
+use Rattle.chv_commit.specs.declared.commit.Commit.{Commit}
+use Rattle.chv_define.specs.Accepted.{Accepted, IsAccepted, Table, catalog_payload, tables_of}
+use Rattle.chv_define.specs.Definitions.{and_then, defined}
+use Rattle.chv_define.proofs.AcceptedLemmas.{AreAccepted-push, tables_of-push}
+use Rattle.chv_part.specs.Books.{Book, TableForm, no_book}
+use Rattle.chv_part.specs.Forms.{form_of}
 use Rattle.chv_site.specs.During.{During}
-use Rattle.chv_site.proofs.Moments.{started, weakened, goes_on}
-use Rattle.chv_gate.specs.Crashes.{AsImages, IsLeftWith, HasFramesOrMore}
-use Rattle.chv_gate.specs.GateLog.{HasFrames, IsPayload, IsReady, begun, frame_of, is_torn}
-use Rattle.chv_gate.proofs.GateLogLemmas.{begun_ready}
-use Rattle.chv_part.specs.Books.{Book, no_book}
-use Rattle.chv_part.proofs.BookLemmas.{IsLawfulBook-no_book}
-use Rattle.chv_part.specs.Standing.{TableStands}
-use Rattle.chv_commit.specs.Commits.{IsCommit}
-use Rattle.chv_commit.specs.Replays.{no_state}
-use Rattle.chv_table.specs.Tables.{form_of, HoldsBook}
-use Rattle.chv_table.specs.Tables.{IsPlaced as IsTablePlaced}
-use Rattle.chv_table.specs.declared.table.Table.{Table}
-use Rattle.chv_engine.specs.Crashes.{EitherStands}
-use Rattle.chv_engine.specs.Histories.{Accepted, History, IsAccepted, IsSchema, Stands, catalog_payload, with_table}
-use Rattle.chv_engine.specs.Stores.{EachTable, IsHeldAs, IsWithin, Holds, HoldsTable}
-use Rattle.chv_engine.specs.declared.store.Store.{Store}
-use Rattle.chv_engine.proofs.AcceptedLemmas.{accepted_payload}
-use Rattle.chv_engine.proofs.EachTableLemmas.{each-all, each-more, each-weaker, each-with-all}
-use Rattle.chv_engine.proofs.HistoryLemmas.{AreAccepted-push, slice_get-push, with_book-same, with_book-other}
-use Rattle.chv_engine.proofs.StoreLemmas.{IsHeldWith, catalog_apart, each-held, holds_table_kept, image_stands, placed_table_kept, ready_left, table_stands}
+use Rattle.chv_site.specs.FileIds.{table_log}
+use Rattle.chv_site.specs.Files.{FileState}
+use Rattle.chv_site.specs.Outside.{Outside}
+use Rattle.chv_site.specs.declared.file_id.FileId.{FileId}
+use Rattle.chv_site.proofs.Moments.{weakened}
+use Rattle.chv_store.specs.Calls.{ChangesLogs, StandsFor, Turns}
+use Rattle.chv_store.specs.Holding.{HoldsBooks, HoldsLogs, with_book, with_one}
+use Rattle.chv_store.specs.Openings.{MakesTable}
+use Rattle.chv_store.specs.Stores.{IsHeldAs, IsUsable, forms_of, states_of, state_of}
+use Rattle.chv_store.specs.declared.store.Store.{Store}
+use Rattle.chv_store.proofs.EachTableLemmas.{each-length}
+use Rattle.chv_table.specs.Tables.{held_state}
+use Rattle.chv_table.specs.declared.fault.PutFault.{PutFault}
+use Rattle.chv_table.specs.declared.fault.PutFault.TheVariants as put
+use Rattle.chv_text.specs.Replies.{ok_line}
+use Rattle.chv_history.specs.Crashes.{IsLeftBy}
+use Rattle.chv_history.specs.Events.{Created, Event, Moment, Replied, happen}
+use Rattle.chv_history.specs.Histories.{History, IsLawful, Stands, book_of, put_at, with_accepted}
+use Rattle.chv_history.specs.Histories.{forms_of as forms_in}
+use Rattle.chv_history.specs.Kept.{Kept, kept_task}
+use Rattle.chv_history.specs.Tasks.{Make}
+use Rattle.chv_history.proofs.ArrivingLemmas.{put_at-other, put_at-same}
+use Rattle.chv_history.proofs.EntryLemmas.{books-accepted}
+use Rattle.chv_history.proofs.LawfulLemmas.{forms_of-push, lawful_accepted}
+use Rattle.chv_history.proofs.LeftLemmas.{left_either}
+use Rattle.chv_history.proofs.StandingLemmas.{stands_by}
+use Rattle.chv_engine.specs.Answers.{Answers, HoldsKept, IsAt, IsLogged, Replies, create_wish}
+use Rattle.chv_engine.specs.Faults.{put_fault_of}
+use Rattle.chv_engine.specs.declared.fault.RunFault.{RunFault}
+use Rattle.chv_engine.specs.declared.fault.RunFault.TheVariants.{Disk, Say}
+use Rattle.chv_engine.proofs.AnswerLemmas.{Asks, counts_read}
+use Rattle.chv_engine.proofs.DeliverLemmas.{holds_by}
+use Rattle.chv_engine.proofs.DoneLemmas.{Done, TellsNone, done_answers, ended_task}
 
--- a log of at most one byte stays so once it is begun
-begun_by : (bytes : List ℕ) (torn : Bool) → length bytes ≤ 1 → length (cond torn (0 ∷ []) bytes) ≤ 1
-begun_by bytes true short = omega arith
-begun_by bytes false short = short
+-- the table that a statement makes, as a history has it
+abbrev pub made : Statement → TableDef → Accepted
+made create def = record { statement = create; definition = Table def }
 
-begun_short : (bytes : List ℕ) → length bytes ≤ 1 → length (begun bytes) ≤ 1
-begun_short bytes short = begun_by bytes (is_torn bytes) short
+-- what the store's call did
+pub record HasCreated (tells : Type 0) (result : Result (Unit {0}) PutFault) (was is : Store) (create : Statement) (def : TableDef) (old new : Outside) : Type 0 where
+  pub created : tells → (payloads : List (List ℕ)) (books : ℕ → Book) → HoldsBooks was old.files payloads books
+      → Turns result (HoldsBooks is new.files (payloads ++ catalog_payload (made create def) ∷ []) (with_book (length was.schema.tables + 1) no_book books)) (StandsFor payloads (forms_of was) books)
+      (StandsFor (payloads ++ catalog_payload (made create def) ∷ []) (forms_of was ++ form_of def ∷ []) (with_book (length was.schema.tables + 1) no_book books)) old new
+  pub logged : tells → (payloads : List (List ℕ)) (commits : ℕ → List Commit) → HoldsLogs was old.files payloads commits → (old.files (table_log (length was.schema.tables + 1))).most ≤ 1
+      → OnOk result (HoldsLogs is new.files (payloads ++ catalog_payload (made create def) ∷ []) (with_one (length was.schema.tables + 1) [] commits))
+  pub held : OnOk result ((is.schema.tables ≡ was.schema.tables ++ def ∷ []) × (states_of is ≡ states_of was ++ no_state ∷ []))
+  pub keeps : ChangesLogs tells (IsErrOf result put.Failed) (length was.schema.tables + 1) old new
 
--- a new log that is begun has no frame
-new_stands : (def : TableDef) (image : Image) (number : ℕ) (bytes : List ℕ) → length bytes ≤ 1 → IsFileImage (settled (begun bytes)) (image (record { table = number; part = 0 }))
-    → TableStands image number (form_of def) no_book
-new_stands def image number bytes short is = record {
-  lawful = IsLawfulBook-no_book (form_of def);
-  commits = [];
-  right = All-nil IsCommit;
-  log = ready_left 0 [] (settled (begun bytes)) (image (record { table = number; part = 0 })) (begun_ready bytes short) is;
-  state = no_state;
-  replays = refl;
-  describes = record { entries = refl; ids = sym (drop-nil _); layout = refl };
-  parts = All-nil _;
-}
+-- a table that is not defined is refused
+pub create_refused : (store : Store) (create : Statement) (refuses : Refusal) → defined store.schema.tables create ≡ Err refuses → Asks (create_wish create) store (Err refuses)
+create_refused store create refuses is entries agree = ap (λ (r : Result TableDef Refusal). and_then r (λ d. Ok (Make (made create d)))) is
 
--- two logs of different tables are different files
-log_apart : (n t : ℕ) → n ≢ t → ◌≢◌ {A = FileId} (record { table = n; part = 0 }) (record { table = t; part = 0 })
-log_apart n t other same = other (ap (λ (f : FileId). f.table) same)
+-- a definition of a table asks for no rows
+make_tells_none : (accepted : Accepted) → TellsNone (Make accepted)
+make_tells_none accepted table def same = cc same
 
-pub in_other : (f : FileId) (t : ℕ) → f.table ≢ t → f ≢ record { table = t; part = 0 }
-in_other f t other same = other (ap (λ (g : FileId). g.table) same)
+-- one state more that is the default is read as the default
+get_or-default : {X : Type 0} (xs : List X) (i : ℕ) (d : X) → get_or (xs ++ d ∷ []) i d ≡ get_or xs i d
+get_or-default [] zero d = refl
+get_or-default [] (suc i) d = refl
+get_or-default (x ∷ xs) zero d = refl
+get_or-default (x ∷ xs) (suc i) d = get_or-default xs i d
 
--- a statement more has its number and its payload
-length-schema : (schema : List Accepted) (accepted : Accepted) → length (schema ++ accepted ∷ []) ≡ length schema + 1
-length-schema schema accepted = length-append schema (accepted ∷ [])
+module _ (tells : Type 0) (client : ℕ) (result : Result (Unit {0}) PutFault) (was is : Store) (create : Statement) (def : TableDef) (old new : Outside) (usable : IsUsable tells was old)
+    (makes : MakesTable was.schema.tables create def) (call : HasCreated tells result was is create def old new) where
+  abbrev accepted : Accepted
+  accepted = made create def
 
-pub payloads-push : (schema : List Accepted) (accepted : Accepted) → map catalog_payload (schema ++ accepted ∷ []) ≡ map catalog_payload schema ++ catalog_payload accepted ∷ []
-payloads-push schema accepted = map-append catalog_payload schema (accepted ∷ [])
+  abbrev number : ℕ
+  number = length was.schema.tables + 1
 
-module _ (store : Store) (before : FileId → FileState) (history : History) (accepted : Accepted) (number : ℕ) (within : IsWithin store) (held : Holds store before history) (is : number ≡ length store.schema.tables + 1) where
-  abbrev new : History
-  new = with_table accepted history
+  asks : Asks (create_wish create) was (Ok (Make accepted))
+  asks entries agree = ap (λ (r : Result TableDef Refusal). and_then r (λ d. Ok (Make (made create d)))) makes.passes.defines
 
-  abbrev log : FileId
-  log = record { table = number; part = 0 }
+  -- at a moment
+  module _ (before : List ℕ) (m : Moment) (at : IsAt was old before m) where
+    abbrev next : History
+    next = with_accepted accepted m.history
 
-  -- the new number is behind those of the tables
-  number_is : number ≡ length history.schema + 1
-  number_is = omega (arith, is, ap length held.schema, length-map history.schema (λ (a : Accepted). a.def))
+    abbrev payloads : List (List ℕ)
+    payloads = map catalog_payload m.history.schema
 
-  at_end : length (history.schema ++ accepted ∷ []) ≡ number
-  at_end = omega (arith, number_is, length-schema history.schema accepted)
+    abbrev books : ℕ → Book
+    books = with_book number no_book (book_of m.history)
 
-  new_book : new.books number ≡ no_book
-  new_book = subst (λ (n : ℕ). new.books n ≡ no_book) at_end (with_book-same (length (history.schema ++ accepted ∷ [])) no_book (record history { schema = history.schema ++ accepted ∷ [] }))
+    lawful_next : IsLawful next
+    lawful_next = lawful_accepted accepted m.history at.lawful makes.built (subst (λ (tables : List TableDef). IsAccepted tables accepted) at.tables makes.passes)
 
-  old_book : (n : ℕ) → n ≢ number → new.books n ≡ history.books n
-  old_book n other = with_book-other (length (history.schema ++ accepted ∷ [])) n no_book (record history { schema = history.schema ++ accepted ∷ [] }) (λ same. other (omega (arith, same, at_end)))
+    payloads_next : payloads ++ catalog_payload (made create def) ∷ [] ≡ map catalog_payload next.schema
+    payloads_next = sym (map_push catalog_payload m.history.schema accepted)
 
-  -- the new log and those of no table are short before
-  pub log_most : (before log).most ≤ 1
-  log_most = held.others number (omega (arith, number_is))
+    books_next : (n : ℕ) → book_of next n ≡ books n
+    books_next n = books-accepted accepted m.history n ∙ ap (λ (tables : List TableDef). put_at (length tables + 1) no_book (book_of m.history) n) (sym at.tables)
 
-  log_short_before : HasLengths (before log) → length (before log).bytes ≤ 1
-  log_short_before lengths = omega (arith, log_most, lengths.no_longer)
+    forms_are : forms_of was ≡ forms_in m.history.schema
+    forms_are = ap (map form_of) at.tables
 
-  short_before : (image : Image) (t : ℕ) → length history.schema < t → IsFileImage (before (record { table = t; part = 0 })) (image (record { table = t; part = 0 })) → length (image (record { table = t; part = 0 })) ≤ 1
-  short_before image t above left = let long = left.no_longer in omega (arith, long, held.others t above)
+    forms_next : forms_of was ++ form_of def ∷ [] ≡ forms_in next.schema
+    forms_next = ap (λ (forms : List TableForm). forms ++ form_of def ∷ []) forms_are ∙ sym (forms_of-push m.history.schema accepted)
 
-  -- a fact of the logs behind those of the tables, from the new one's and those of the others
-  each_log : (P : ℕ → Type 0) → P number → ((t : ℕ) → number < t → P t) → (t : ℕ) → length history.schema < t → P t
-  each_log P first later t above = elim (cases_eq t number) as (λ _. P t) [ inl one ↦ subst P (sym one) first | inr other ↦ later t (omega (arith, above, number_is, other)) ]
+    turns : tells
+        → Turns result (HoldsBooks is new.files (payloads ++ catalog_payload (made create def) ∷ []) books) (StandsFor payloads (forms_of was) (book_of m.history))
+        (StandsFor (payloads ++ catalog_payload (made create def) ∷ []) (forms_of was ++ form_of def ∷ []) books) old new
+    turns tell = call.created tell payloads (book_of m.history) at.holds
 
-  -- the store stands for the history from before in an image whose catalog and logs are so
-  still : (image : Image) → HasFrames (map catalog_payload history.schema) (image store.catalog.file) → ((f : FileId) → 1 ≤ f.table → f.table < number → IsFileImage (before f) (image f))
-      → ((t : ℕ) → length history.schema < t → length (image (record { table = t; part = 0 })) ≤ 1) → Stands image history
-  still image frames tables shorts = record {
-    lawful = held.lawful;
-    catalog = subst (λ (f : FileId). HasFrames (map catalog_payload history.schema) (image f)) within.catalog frames;
-    tables = λ place old stands. table_stands store before image history place old within held stands
-        (λ f same. tables f (omega (arith, same)) (omega (arith, same, number_is, slice_get_within history.schema place old stands)));
-    others = shorts;
-  }
+    -- a crash meanwhile leaves the store with the table or without
+    create_during : tells → (events : List Event) → During old new (IsLeftBy (Created accepted ∷ events) before m)
+    create_during tell events =
+        weakened old new _ (IsLeftBy (Created accepted ∷ events) before m) (turns tell).during
+        (λ image text left.
+        left_either (Created accepted) events before m image text refl
+        (elim left.stands as (λ _. Stands image m.history ⊎ Stands image next) [
+          | inl first ↦ inl (stands_by image m.history payloads (forms_of was) (book_of m.history) at.lawful refl forms_are (λ n. refl) first)
+          | inr second ↦ inr (stands_by image next (payloads ++ catalog_payload (made create def) ∷ []) (forms_of was ++ form_of def ∷ []) books lawful_next payloads_next forms_next books_next second)
+        ]) (left.text_left ∙ at.text))
 
-  -- no call was made yet
-  none_made : (said : List ℕ) (image : Image) (text : List ℕ) → IsLeft before said image text → EitherStands history new said image text
-  none_made said image text left = record { stands = inl (image_stands store before image history within held left.0); text_left = left.1 }
+    create_at : result ≡ Ok tt → tells → IsAt is new before (happen (Created accepted) m)
+    create_at ok tell =
+        let held = subst (λ (r : Result (Unit {0}) PutFault). OnOk r ((is.schema.tables ≡ was.schema.tables ++ def ∷ []) × (states_of is ≡ states_of was ++ no_state ∷ []))) ok call.held in
+        let holds = subst (λ (r : Result (Unit {0}) PutFault). OnOk r (HoldsBooks is new.files (payloads ++ catalog_payload (made create def) ∷ []) books)) ok (turns tell).done in
+        record {
+          lawful = lawful_next;
+          tables = held.0 ∙ ap (λ (tables : List TableDef). tables ++ def ∷ []) at.tables ∙ sym (tables_of-push m.history.schema accepted);
+          holds = subst (λ (ps : List (List ℕ)). HoldsBooks is new.files ps (book_of next)) payloads_next (holds_by is new.files (payloads ++ catalog_payload (made create def) ∷ []) books (book_of next) books_next holds);
+          text = call.keeps.said tell ∙ at.text;
+        }
 
-  -- the table's log is begun
-  log_begun : (said : List ℕ) (image : Image) (text : List ℕ) → IsLeftWith log (λ bytes. length bytes ≤ 1) before said image text → EitherStands history new said image text
-  log_begun said image text left = record {
-    stands = inl (still image
-        (ready_left store.catalog.gate (map catalog_payload history.schema) (before store.catalog.file) (image store.catalog.file) held.catalog
-        (left.0 store.catalog.file (λ same. catalog_apart store log within (omega (arith, number_is)) (sym same))))
-        (λ f some below. left.0 f (in_other f number (λ same. omega (arith, same, below))))
-        (each_log (λ t. length (image (record { table = t; part = 0 })) ≤ 1) left.1 (λ t far. short_before image t (omega (arith, far, number_is)) (left.0 (record { table = t; part = 0 }) (log_apart t number (λ same. omega (arith, same, far)))))));
-    text_left = left.2;
-  }
+  module _ (ok : result ≡ Ok tt) where
+    held : (is.schema.tables ≡ was.schema.tables ++ def ∷ []) × (states_of is ≡ states_of was ++ no_state ∷ [])
+    held = subst (λ (r : Result (Unit {0}) PutFault). OnOk r ((is.schema.tables ≡ was.schema.tables ++ def ∷ []) × (states_of is ≡ states_of was ++ no_state ∷ []))) ok call.held
 
-  pub new_schema : IsAccepted store.schema.tables accepted → IsSchema new.schema
-  new_schema is_accepted = AreAccepted-push [] history.schema accepted held.lawful (subst (λ (defs : List TableDef). IsAccepted defs accepted) held.schema is_accepted)
+    one_more : length is.schema.tables ≡ number
+    one_more = ap (λ (tables : List TableDef). length tables) held.0 ∙ length-append was.schema.tables (def ∷ [])
 
-  -- the catalog's log is ready as before once the table's is begun
-  pub catalog_ready : (between : FileId → FileState) → ((f : FileId) → f ≢ log → between f ≡ before f) → IsReady store.catalog.gate (map catalog_payload history.schema) (between store.catalog.file)
-  catalog_ready between kept =
-      subst (λ (s : FileState). IsReady store.catalog.gate (map catalog_payload history.schema) s) (sym (kept store.catalog.file (λ same. catalog_apart store log within (omega (arith, number_is)) (sym same)))) held.catalog
+    -- what is held of each table
+    same_state : (table : ℕ) → state_of is table ≡ state_of was table
+    same_state table = ap (λ (states : List State). get_or states (table - 1) no_state) held.1 ∙ get_or-default (states_of was) (table - 1) no_state
 
-  module _ (is_accepted : IsAccepted store.schema.tables accepted) (between : FileId → FileState) (kept : (f : FileId) → f ≢ log → between f ≡ before f) (begun_log : between log ≡ settled (begun (before log).bytes))
-      (short : length (before log).bytes ≤ 1) where
-    old_tables : (image : Image) → AsImages store.catalog.file between image → (f : FileId) → 1 ≤ f.table → f.table < number → IsFileImage (before f) (image f)
-    old_tables image others f some below = subst (λ (s : FileState). IsFileImage s (image f)) (kept f (in_other f number (λ same. omega (arith, same, below)))) (others f (catalog_apart store f within some))
+    few_states : length (states_of was) ≡ length was.schema.tables
+    few_states = length-map was.tables.items held_state ∙ each-length IsHeldAs 1 was.schema.tables was.tables.items usable.within.tables
 
-    later_short : (image : Image) → AsImages store.catalog.file between image → (t : ℕ) → number < t → length (image (record { table = t; part = 0 })) ≤ 1
-    later_short image others t far = short_before image t (omega (arith, far, number_is))
-        (subst (λ (s : FileState). IsFileImage s (image (record { table = t; part = 0 }))) (kept (record { table = t; part = 0 }) (log_apart t number (λ same. omega (arith, same, far))))
-        (others (record { table = t; part = 0 }) (catalog_apart store (record { table = t; part = 0 }) within (omega (arith, far)))))
+    create_kept : (kept : Kept) → HoldsKept was kept → HoldsKept is (kept_task (Ok (Make accepted)) kept)
+    create_kept kept has =
+        let last = length kept.tables + 1 in
+        let many : length was.schema.tables ≡ length kept.tables = ap (λ (tables : List TableDef). length tables) has.tables in
+        record {
+          tables = held.0 ∙ ap (λ (tables : List TableDef). tables ++ def ∷ []) has.tables;
+          states = λ table first within. elim (cases_eq table last) as (λ _. state_of is table ≡ put_at last no_state kept.states table) [
+            | inl same ↦
+                same_state table ∙ get_or_past (states_of was) (table - 1) no_state (omega (arith, same, few_states, many))
+                ∙ subst (λ (n : ℕ). no_state ≡ put_at last no_state kept.states n) (sym same) (sym (put_at-same last no_state kept.states))
+            | inr other ↦
+                same_state table ∙ has.states table first (omega (arith, within, other, length-append kept.tables (def ∷ []))) ∙ sym (put_at-other last table no_state kept.states other)
+          ];
+        }
 
-    log_left : (image : Image) → AsImages store.catalog.file between image → IsFileImage (settled (begun (before log).bytes)) (image log)
-    log_left image others = subst (λ (s : FileState). IsFileImage s (image log)) begun_log (others log (catalog_apart store log within (omega (arith, number_is))))
+    create_logged : tells → IsLogged was old.files → IsLogged is new.files
+    create_logged tell logged =
+        let payloads = map catalog_payload logged.schema in
+        let passes : IsAccepted (tables_of logged.schema) accepted = subst (λ (tables : List TableDef). IsAccepted tables accepted) logged.tables makes.passes in
+        let holds = call.logged tell payloads logged.commits logged.holds (logged.others number (omega arith)) in
+        record {
+          schema = logged.schema ++ accepted ∷ [];
+          lawful = AreAccepted-push [] logged.schema accepted logged.lawful makes.built passes;
+          tables = held.0 ∙ ap (λ (tables : List TableDef). tables ++ def ∷ []) logged.tables ∙ sym (tables_of-push logged.schema accepted);
+          commits = with_one number [] logged.commits;
+          holds = subst (λ (ps : List (List ℕ)). HoldsLogs is new.files ps (with_one number [] logged.commits)) (sym (map_push catalog_payload logged.schema accepted))
+              (subst (λ (r : Result (Unit {0}) PutFault). OnOk r (HoldsLogs is new.files (payloads ++ catalog_payload (made create def) ∷ []) (with_one number [] logged.commits))) ok holds);
+          others = λ table beyond.
+              let above : number < table = omega (arith, beyond, one_more) in
+              subst (λ (s : FileState). s.most ≤ 1)
+              (sym (call.keeps.others tell (table_log table) (λ same. absurd (omega (arith, above, ap (λ (f : FileId). f.table) same))) (λ same. absurd (omega (arith, above, ap (λ (f : FileId). f.table) same)))))
+              (logged.others table (omega (arith, above)));
+        }
 
-    log_short : (image : Image) → AsImages store.catalog.file between image → length (image log) ≤ 1
-    log_short image others = let long = (log_left image others).no_longer in omega (arith, long, begun_short (before log).bytes short)
+    unfailed : IsErrOf result put.Failed → ⊥
+    unfailed err = cc (sym ok ∙ err)
 
-    -- what stands for each table, the new one's being last
-    made_table : (image : Image) → AsImages store.catalog.file between image → (place : ℕ) (each : Accepted) → slice_get (history.schema ++ accepted ∷ []) place ≡ Some each
-        → TableStands image (place + 1) (form_of each.def) (new.books (place + 1))
-    made_table image others place each stands = elim (slice_get-push history.schema accepted each place stands) as (λ _. TableStands image (place + 1) (form_of each.def) (new.books (place + 1))) [
-      | inl old ↦ subst (λ (b : Book). TableStands image (place + 1) (form_of each.def) b) (sym (old_book (place + 1) (λ same. omega (arith, same, old.0, number_is))))
-          (table_stands store before image history place each within held old.1 (λ f same. old_tables image others f (omega (arith, same)) (omega (arith, same, old.0, number_is))))
-      | inr last ↦
-          let one : number ≡ place + 1 = omega (arith, last.0, number_is) in
-          subst (λ (n : ℕ). TableStands image n (form_of each.def) (new.books n)) one
-          (subst (λ (b : Book). TableStands image number (form_of each.def) b) (sym new_book)
-          (subst (λ (a : Accepted). TableStands image number (form_of a.def) no_book) last.1 (new_stands accepted.def image number (before log).bytes short (log_left image others))))
-    ]
-
-    -- the store stands for the history with the table where its text is in the catalog
-    made : (image : Image) → HasFrames (map catalog_payload history.schema ++ catalog_payload accepted ∷ []) (image store.catalog.file) → AsImages store.catalog.file between image → Stands image new
-    made image frames others = record {
-      lawful = new_schema is_accepted;
-      catalog = subst (λ (f : FileId). HasFrames (map catalog_payload new.schema) (image f)) within.catalog
-          (subst (λ (payloads : List (List ℕ)). HasFrames payloads (image store.catalog.file)) (sym (payloads-push history.schema accepted)) frames);
-      tables = made_table image others;
-      others = λ t above. later_short image others t (omega (arith, above, at_end));
+    create_done : IsUsable tells is new → Done tells client (Make accepted) (ok_line client) was is old new
+    create_done ready = record {
+      events = λ history. Created accepted ∷ [];
+      text = λ history. ok_line client;
+      plans = [];
+      are = λ history. refl;
+      at = λ tell before m at. create_at before m at ok tell;
+      says = λ tell before m at. refl;
+      mark = λ m. refl;
+      during = λ tell before m at. create_during before m at tell [];
+      kept = create_kept;
+      logged = create_logged;
+      usable = ready;
+      disk = call.keeps.counts.same unfailed;
+      say = call.keeps.counts.other;
     }
 
-    -- the text may be in the catalog or not
-    text_appended : (said : List ℕ) (image : Image) (text : List ℕ) → IsLeftWith store.catalog.file (HasFramesOrMore (map catalog_payload history.schema) (catalog_payload accepted)) between said image text
-        → EitherStands history new said image text
-    text_appended said image text left = record {
-      stands = elim left.1 as (λ _. Stands image history ⊎ Stands image new) [
-        | inl frames ↦ inl (still image frames (old_tables image left.0) (each_log (λ t. length (image (record { table = t; part = 0 })) ≤ 1) (log_short image left.0) (later_short image left.0)))
-        | inr frames ↦ inr (made image frames left.0)
-      ];
-      text_left = left.2;
-    }
+    -- the table is made, and a reply says it
+    pub create_answers : IsUsable tells is new → (line : List ℕ) → line ≡ ok_line client → (answer : Result Bool RunFault) (end : Outside) → Replies tells line false answer new end
+        → Answers tells client (create_wish create) answer was is old end
+    create_answers ready line same answer end replies =
+        done_answers tells client (create_wish create) (Make accepted) (make_tells_none accepted) was is old usable asks (ok_line client) answer new end (create_done ready)
+        (subst (λ (l : List ℕ). Replies tells l false answer new end) same replies)
 
-  -- the tables hold their books, where the files of those from before are as they were, and the new one's is empty
-  pub holds_tables : (behind : FileId → FileState) (table : Table) → ((f : FileId) → 1 ≤ f.table → f.table < number → behind f ≡ before f) → HoldsBook table behind no_book
-      → EachTable (HoldsTable behind new) 1 (store.schema.tables ++ accepted.def ∷ []) (store.tables.items ++ table ∷ [])
-  holds_tables behind table kept empty =
-      let number_at : 1 + length store.schema.tables ≡ number = omega (arith, is) in
-      each-more (HoldsTable behind new) 1 store.schema.tables store.tables.items accepted.def table
-      (each-weaker (IsHeldWith before history) (HoldsTable behind new) 1 store.schema.tables store.tables.items
-      (λ n def old low high holds.
-      subst (λ (b : Book). HoldsBook old behind b) (sym (old_book n (λ same. omega (arith, same, high, is))))
-      (holds_table_kept before behind history n def old (λ f same. kept f (omega (arith, same, low)) (omega (arith, same, high, is))) holds))
-      (each-held store before history within held))
-      (subst (λ (n : ℕ). HoldsBook table behind (new.books n)) (sym number_at) (subst (λ (b : Book). HoldsBook table behind b) (sym new_book) empty))
+  -- or a fault ends it
+  pub create_ended : (fault : PutFault) → result ≡ Err fault → Answers tells client (create_wish create) (Err (put_fault_of fault)) was is old new
+  create_ended fault is_err =
+      ended_task tells client (create_wish create) (Make accepted) fault was is old new (make_tells_none accepted) usable asks (λ tell before m at. create_during before m at tell (Replied (ok_line client) [] false ∷ []))
+      (counts_read (put_fault_of fault) (IsErrOf result put.Failed) old new call.keeps.counts (λ disk. is_err ∙ ap (λ (f : PutFault). Err f) (failed_by fault disk)) (λ failed. failed_so fault (sym is_err ∙ failed)) (unsaid fault))
+    where
+      failed_by : (fault : PutFault) → put_fault_of fault ≡ Disk → fault ≡ put.Failed
+      failed_by put.Failed disk = refl
+      failed_by put.NoMemory disk = cc disk
 
-  -- and no other table has a log of more than a torn gate
-  pub others_short : (behind : FileId → FileState) → ((f : FileId) → number < f.table → behind f ≡ before f) → (t : ℕ) → length (history.schema ++ accepted ∷ []) < t → (behind (record { table = t; part = 0 })).most ≤ 1
-  others_short behind kept t above =
-      subst (λ (s : FileState). s.most ≤ 1) (sym (kept (record { table = t; part = 0 }) (omega (arith, above, at_end)))) (held.others t (omega (arith, above, at_end, number_is)))
+      failed_so : (fault : PutFault) → ◌≡◌ {A = Result (Unit {0}) PutFault} (Err fault) (Err put.Failed) → put_fault_of fault ≡ Disk
+      failed_so put.Failed same = refl
+      failed_so put.NoMemory same = cc same
 
-  -- while the table is made: before any call on the disk, while its log is begun, and while its text is appended
-  module _ (is_accepted : IsAccepted store.schema.tables accepted) {S : Type 0} (moment : S → ℕ) (left_since : S → ℕ → Image → List ℕ → Type 0) (site : S) (said : List ℕ) where
-    pub none_during : ((image : Image) (text : List ℕ) → left_since site (moment site) image text → IsLeft before said image text) → During moment left_since site site (EitherStands history new said)
-    none_during now = started moment left_since site (EitherStands history new said) (λ image text left. none_made said image text (now image text left))
-
-    pub log_during : (mid : S) → ((before log).most ≤ 1 → During moment left_since site mid (IsLeftWith log (λ bytes. length bytes ≤ 1) before said)) → During moment left_since site mid (EitherStands history new said)
-    log_during mid during = weakened moment left_since site mid (IsLeftWith log (λ bytes. length bytes ≤ 1) before said) (EitherStands history new said) (during log_most) (log_begun said)
-
-    pub made_during : (mid now : S) (between : FileId → FileState) (said_then frame : List ℕ) → ((f : FileId) → f ≢ log → between f ≡ before f) → between log ≡ settled (begun (before log).bytes) → HasLengths (before log) → said_then ≡ said
-        → frame ≡ frame_of (catalog_payload accepted) → ((before log).most ≤ 1 → During moment left_since site mid (IsLeftWith log (λ bytes. length bytes ≤ 1) before said))
-        → ((payloads : List (List ℕ)) (payload : List ℕ) → IsReady store.catalog.gate payloads (between store.catalog.file) → IsPayload payload → frame ≡ frame_of payload
-        → During moment left_since mid now (IsLeftWith store.catalog.file (HasFramesOrMore payloads payload) between said_then))
-        → During moment left_since site now (EitherStands history new said)
-    made_during mid now between said_then frame kept begun_log lengths same spelled first second =
-        goes_on moment left_since site mid now (EitherStands history new said) (IsLeftWith store.catalog.file (HasFramesOrMore (map catalog_payload history.schema) (catalog_payload accepted)) between said_then)
-        (log_during mid first)
-        (second (map catalog_payload history.schema) (catalog_payload accepted) (catalog_ready between kept) (accepted_payload store.schema.tables accepted is_accepted) spelled)
-        (λ image text left. text_appended is_accepted between kept begun_log (log_short_before lengths) said image text (left.0, left.1, left.2 ∙ same))
-
--- the tables keep their numbers with a new one's behind
-pub held_more : (store : Store) (def : TableDef) (table : Table) (number : ℕ) → IsWithin store → number ≡ length store.schema.tables + 1 → IsHeldAs number def table → EachTable IsHeldAs 1 (store.schema.tables ++ def ∷ []) (store.tables.items ++ table ∷ [])
-held_more store def table number within is held =
-    each-more IsHeldAs 1 store.schema.tables store.tables.items def table within.tables (subst (λ (n : ℕ). IsHeldAs n def table) (omega (arith, is)) held)
-
--- and the standing gates of their logs are in their files
-pub placed_more : (store : Store) (before behind : FileId → FileState) (table : Table) (number : ℕ) → IsWithin store → number ≡ length store.schema.tables + 1 → ((f : FileId) → 1 ≤ f.table → f.table < number → behind f ≡ before f)
-    → All (λ table. IsTablePlaced table before) store.tables.items → IsTablePlaced table behind → All (λ table. IsTablePlaced table behind) (store.tables.items ++ table ∷ [])
-placed_more store before behind table number within is kept placed new =
-    let Placed = (λ (t : Table). IsTablePlaced t behind) in
-    let Before = (λ (n : ℕ) (def : TableDef) (t : Table). IsHeldAs n def t × IsTablePlaced t before) in
-    All-push Placed store.tables.items table
-    (each-all (λ n def t. Placed t) Placed 1 store.schema.tables store.tables.items (λ n def t there. there)
-    (each-weaker Before (λ n def t. Placed t) 1 store.schema.tables store.tables.items
-    (λ n def t low high was. placed_table_kept before behind n def t (λ f same. kept f (omega (arith, same, low)) (omega (arith, same, high, is))) was.0 was.1)
-    (each-with-all IsHeldAs (λ t. IsTablePlaced t before) 1 store.schema.tables store.tables.items within.tables placed)))
-    new
+      unsaid : (fault : PutFault) → put_fault_of fault ≡ Say → ⊥
+      unsaid put.Failed same = cc same
+      unsaid put.NoMemory same = cc same

@@ -1,5 +1,5 @@
--- The events of a statement that is built, by its form, and of one that is not.
-use Rattle.std.proofs.Common.{◌≡◌, ◌≢◌, ℕ, List, Bool, true, false, Option, Some, if◌then◌else◌, refl, sym, ap, ◌∙◌}
+-- What a statement asks for that is built, by its form, and one that is not.
+use Rattle.std.proofs.Common.{◌≡◌, ◌≢◌, ℕ, List, Bool, true, false, not, Option, Some, Err, refl, sym, ap, ◌∙◌}
 use Rattle.std.proofs.lemmas.Bool.{false≢true}
 use Rattle.chv_ast.specs.declared.expr.Literal.{Literal}
 use Rattle.chv_ast.specs.declared.refusal.Refusal.TheVariants.{NotBuilt}
@@ -10,36 +10,41 @@ use Rattle.chv_ast.specs.declared.statement.Settings.{Settings}
 use Rattle.chv_ast.specs.declared.statement.Statement.{Statement}
 use Rattle.chv_ast.specs.declared.statement.Statement.TheVariants as statement
 use Rattle.chv_catalog.specs.declared.table_def.TableDef.{TableDef}
-use Rattle.chv_define.specs.Definitions.{defined}
-use Rattle.chv_plan.specs.Plans.{planned, table_of}
-use Rattle.chv_engine.specs.Damage.{Shows}
-use Rattle.chv_engine.specs.Forms.{is_built}
-use Rattle.chv_engine.specs.Histories.{History, tables_of}
-use Rattle.chv_engine.specs.Runs.{refusal, create_events, insert_events, select_events, parts_events, built_events, known_events}
+use Rattle.chv_define.specs.Accepted.{is_built_create}
+use Rattle.chv_define.specs.Definitions.{refuse_if}
+use Rattle.chv_history.specs.Built.{is_built}
+use Rattle.chv_history.specs.Tasks.{built_task}
+use Rattle.chv_engine.specs.Answers.{create_wish, insert_wish, parts_wish, rows_wish, statement_wish}
 
-pub known_unbuilt : (client : ℕ) (asked : Statement) (history : History) → is_built asked ≡ false → known_events client asked history ≡ refusal client NotBuilt
-known_unbuilt client asked history unbuilt = ap (λ (b : Bool). if b then built_events client asked history else refusal client NotBuilt) unbuilt
+module _ (asked : Statement) (tables : List TableDef) (entries : ℕ → ℕ) where
+  -- one that is not is refused
+  pub known_unbuilt : is_built asked ≡ false → statement_wish (Some asked) tables entries ≡ Err NotBuilt
+  known_unbuilt unbuilt = ap (λ (b : Bool). refuse_if (not b) NotBuilt (built_task tables entries asked)) unbuilt
 
-known_built : (client : ℕ) (asked : Statement) (history : History) → is_built asked ≡ true → known_events client asked history ≡ built_events client asked history
-known_built client asked history built = ap (λ (b : Bool). if b then built_events client asked history else refusal client NotBuilt) built
+  known_built : is_built asked ≡ true → statement_wish (Some asked) tables entries ≡ built_task tables entries asked
+  known_built built = ap (λ (b : Bool). refuse_if (not b) NotBuilt (built_task tables entries asked)) built
 
-pub known_create : (client : ℕ) (asked : Statement) (history : History) (name : List ℕ) (columns : List ColumnDef) (engine : EngineWord) (key : List (List ℕ)) (window : Option (List ℕ)) → is_built asked ≡ true
-    → asked ≡ statement.CreateTable name columns engine key window → known_events client asked history ≡ create_events client asked (defined (tables_of history.schema) asked)
-known_create client asked history name columns engine key window built is =
-    known_built client asked history built ∙ ap (λ (s : Statement). built_events client s history) is ∙ sym (ap (λ (s : Statement). create_events client s (defined (tables_of history.schema) s)) is)
+  pub known_create : (name : List ℕ) (columns : List ColumnDef) (engine : EngineWord) (key : List (List ℕ)) (window : Option (List ℕ)) → is_built asked ≡ true
+      → asked ≡ statement.CreateTable name columns engine key window → create_wish asked tables entries ≡ statement_wish (Some asked) tables entries
+  known_create name columns engine key window built is =
+      ap (λ (s : Statement). create_wish s tables entries) is ∙ sym (ap (built_task tables entries) is) ∙ sym (known_built built)
 
-pub known_insert : (client : ℕ) (asked : Statement) (history : History) (table : List ℕ) (columns : Option (List (List ℕ))) (settings : Settings) (rows : List (List Literal)) → is_built asked ≡ true
-    → asked ≡ statement.Insert table columns settings rows → known_events client asked history ≡ insert_events client (planned (tables_of history.schema) asked) history
-known_insert client asked history table columns settings rows built is =
-    known_built client asked history built ∙ ap (λ (s : Statement). built_events client s history) is ∙ sym (ap (λ (s : Statement). insert_events client (planned (tables_of history.schema) s) history) is)
+  pub known_insert : (table : List ℕ) (columns : Option (List (List ℕ))) (settings : Settings) (rows : List (List Literal)) → is_built asked ≡ true
+      → asked ≡ statement.Insert table columns settings rows → insert_wish asked tables entries ≡ statement_wish (Some asked) tables entries
+  known_insert table columns settings rows built is =
+      ap (λ (s : Statement). insert_wish s tables entries) is ∙ sym (ap (built_task tables entries) is) ∙ sym (known_built built)
 
-pub known_query : (client : ℕ) (asked : Statement) (history : History) (query : Select) → is_built asked ≡ true → asked ≡ statement.Query query
-    → known_events client asked history ≡ select_events client (table_of (tables_of history.schema) query.table) history
-known_query client asked history query built is = known_built client asked history built ∙ ap (λ (s : Statement). built_events client s history) is
+  pub known_query : (query : Select) → is_built asked ≡ true → asked ≡ statement.Query query → rows_wish query.table tables entries ≡ statement_wish (Some asked) tables entries
+  known_query query built is = sym (ap (built_task tables entries) is) ∙ sym (known_built built)
 
-pub known_parts : (client : ℕ) (asked : Statement) (history : History) (table : List ℕ) → is_built asked ≡ true → asked ≡ statement.ShowParts table
-    → known_events client asked history ≡ parts_events client (table_of (tables_of history.schema) table) history
-known_parts client asked history table built is = known_built client asked history built ∙ ap (λ (s : Statement). built_events client s history) is
+  pub known_parts : (table : List ℕ) → is_built asked ≡ true → asked ≡ statement.ShowParts table → parts_wish table tables entries ≡ statement_wish (Some asked) tables entries
+  known_parts table built is = sym (ap (built_task tables entries) is) ∙ sym (known_built built)
+
+-- a CREATE TABLE that is built is one that the catalog may have
+pub built_create : (asked : Statement) (name : List ℕ) (columns : List ColumnDef) (engine : EngineWord) (key : List (List ℕ)) (window : Option (List ℕ)) → is_built asked ≡ true
+    → asked ≡ statement.CreateTable name columns engine key window → is_built_create asked ≡ true
+unfolding is_built
+built_create asked name columns engine key window built is = ap is_built_create is ∙ sym (ap is_built is) ∙ built
 
 -- a statement of another form is not built
 pub built_form : (asked : Statement) → is_built asked ≡ true
@@ -54,18 +59,3 @@ built_form (statement.ShowParts table) built create insert query parts = parts t
 built_form (statement.CreateView name target asked) built create insert query parts = false≢true built
 built_form (statement.Optimize table) built create insert query parts = false≢true built
 built_form statement.FlushQueue built create insert query parts = false≢true built
-
--- what is shown is a query, and it is built
-pub one_query : (a b : Select) → statement.Query a ≡ statement.Query b → a ≡ b
-one_query a b same = cc
-
-pub one_statement : (a b : Statement) → Some a ≡ Some b → a ≡ b
-one_statement a b same = cc
-
-pub shows_built : (asked : Statement) (tables : List TableDef) (table : ℕ) (def : TableDef) → Shows (Some asked) tables table def → is_built asked ≡ true
-unfolding is_built
-shows_built asked tables table def shows = ap is_built (one_statement asked (statement.Query shows.query) shows.is) ∙ shows.whole
-
--- what shows all rows is a query
-pub shows_query : (asked : Statement) (tables : List TableDef) (table : ℕ) (def : TableDef) (name : List ℕ) → asked ≡ statement.ShowParts name → Shows (Some asked) tables table def → ⊥
-shows_query asked tables table def name is shows = absurd (cc (sym is ∙ one_statement asked (statement.Query shows.query) shows.is))

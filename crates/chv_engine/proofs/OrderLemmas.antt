@@ -5,7 +5,7 @@ use Rattle.std.proofs.lemmas.List.{get_or-drop, get_or_default, length-drop, dro
 use Rattle.std.proofs.lemmas.List.Quantifiers.{position-Some}
 use Rattle.chv_lex.specs.Scripts.{pieces_of}
 use Rattle.chv_lex.specs.declared.piece.Piece.{Piece}
-use Rattle.chv_engine.specs.Script.{of_client, from_client, left_at, requests_in, requests_of}
+use Rattle.chv_history.specs.Script.{of_client, from_client, left_at, requests_in, requests_of}
 use Rattle.chv_engine.proofs.PlaceLemmas.{at_place, filter-first, filter-none}
 
 -- the clients from one on, and those behind it

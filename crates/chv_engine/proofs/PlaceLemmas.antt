@@ -1,5 +1,5 @@
 -- The place of the first item that passes a test.
-use Rattle.std.proofs.Common.{◌≡◌, ℕ, suc, ◌+◌, ◌<◌, Bool, true, false, cond, not, List, [], ◌∷◌, length, take, drop, get_or, refl, ap, sym, ◌∙◌, Some, None, arith}
+use Rattle.std.proofs.Common.{◌≡◌, ℕ, suc, ◌+◌, ◌<◌, Bool, true, false, cond, not, List, [], ◌∷◌, length, drop, get_or, refl, ap, sym, ◌∙◌, Some, None, arith}
 use Rattle.std.proofs.lemmas.List.{drop_more}
 use Rattle.std.proofs.lemmas.List.Quantifiers.{position-Some}
 use Rattle.std.proofs.lemmas.List.Sums.{prefix_len-le-length}
@@ -11,14 +11,11 @@ pub at_place : {X : Type 0} (p : X → Bool) (xs : List X) (i : ℕ) → positio
 at_place p xs i h = (grind (arith, h), grind (arith, h))
 
 -- none passes
-pub at_end : {X : Type 0} (p : X → Bool) (xs : List X) → position p xs ≡ None → position_or_len p xs ≡ length xs
+at_end : {X : Type 0} (p : X → Bool) (xs : List X) → position p xs ≡ None → position_or_len p xs ≡ length xs
 at_end p xs h = grind (arith, h, prefix_len-le-length (λ x. not (p x)) xs)
 
--- one more to take from or to drop from a longer list
-pub take-cons : {X : Type 0} (n : ℕ) (x : X) (xs : List X) → take (1 + n) (x ∷ xs) ≡ x ∷ take n xs
-take-cons n x xs = let one : 1 + n ≡ suc n = omega arith in rw one refl
-
-pub drop-cons : {X : Type 0} (n : ℕ) (x : X) (xs : List X) → drop (1 + n) (x ∷ xs) ≡ drop n xs
+-- one more to drop from a longer list
+drop-cons : {X : Type 0} (n : ℕ) (x : X) (xs : List X) → drop (1 + n) (x ∷ xs) ≡ drop n xs
 drop-cons n x xs = let one : 1 + n ≡ suc n = omega arith in rw one refl
 
 -- nothing in front of the first that passes does

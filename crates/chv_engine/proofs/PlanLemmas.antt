@@ -1,31 +1,191 @@
--- An insert whose deliveries go to one table: whether there is room for them, and what comes of them and their reply.
-use Rattle.std.proofs.Common.{◌≡◌, ℕ, ◌+◌, ◌-◌, ◌<◌, ◌≤◌, List, [], ◌∷◌, ◌++◌, length, Bool, true, false, not, ◌||◌, cond, nat_eq, nat_lt, get_or, Ok, refl, sym, ap, subst, ◌∙◌, arith, if◌then◌else◌}
+-- Deliveries that are made one after the other, and whether there is room for them where all go to one table.
+use Rattle.std.proofs.Common.{◌≡◌, ℕ, zero, suc, ◌+◌, ◌≤◌, Bool, true, false, not, ◌&&◌, cond, nat_eq, nat_lt, List, [], ◌∷◌, ◌++◌, length, map, take, drop, slice_get, Some, Ok, Err, IsErr, refl, sym, ap, ap₂, subst, ◌∙◌, arith}
+use Rattle.std.specs.Prelude.{Result}
 use Rattle.std.specs.List.{All, filter, list_all}
 use Rattle.std.proofs.lemmas.Bool.{eq-eqb}
-use Rattle.std.proofs.lemmas.Bool.Decides.{nat_tests}
-use Rattle.std.proofs.lemmas.List.Elements.{All-head, All-tail}
-use Rattle.chv_ast.specs.declared.refusal.Refusal.TheVariants.{LimitPassed}
-use Rattle.chv_commit.specs.Replays.{MAX_ENTRIES}
+use Rattle.std.proofs.lemmas.List.{map-append, take-append-drop}
+use Rattle.std.proofs.lemmas.List.Elements.{All-cons, All-head, All-nil, All-tail}
 use Rattle.chv_catalog.specs.declared.table_def.TableDef.{TableDef}
-use Rattle.chv_plan.specs.Plans.{Delivery, DeliversAll}
+use Rattle.chv_commit.specs.Replays.{MAX_ENTRIES}
+use Rattle.chv_plan.specs.Plans.{Delivery, Delivers as IsHeldDelivery, DeliversAll}
 use Rattle.chv_plan.specs.declared.delivery.Delivery.{Delivery as HeldDelivery}
-use Rattle.chv_site.specs.declared.file_id.FileId.{FileId}
-use Rattle.chv_site.specs.Files.{FileState, KeepsFiles}
-use Rattle.chv_site.specs.Images.{Image, IsLeftSaying}
 use Rattle.chv_site.specs.During.{During}
-use Rattle.chv_site.proofs.Moments.{goes_on, weakened}
-use Rattle.chv_text.specs.Replies.{insert_line}
-use Rattle.chv_engine.specs.Crashes.{IsLeftBy}
-use Rattle.chv_engine.specs.Histories.{History}
-use Rattle.chv_engine.specs.Runs.{Event, Committed, Replied, Plan, Moment, behind, delivered, deliveries_to, delivery_events, happen, has_room, insert_events, insert_into, is_skipped, refusal}
-use Rattle.chv_engine.specs.Stores.{IsWithin, IsAt, AnswersAs}
-use Rattle.chv_engine.specs.declared.store.Store.{Store}
-use Rattle.chv_engine.proofs.DeliveryLemmas.{delivers-length, delivers-table}
-use Rattle.chv_engine.proofs.LeftLemmas.{behind-append, early, onward}
-use Rattle.chv_engine.proofs.StepLemmas.{replied_at, reply_during}
+use Rattle.chv_site.specs.Images.{Image, IsLeft}
+use Rattle.chv_site.specs.Outside.{Outside}
+use Rattle.chv_site.specs.declared.fault.Failed.{Failed}
+use Rattle.chv_site.proofs.Moments.{goes_on, started, weakened}
+use Rattle.chv_store.specs.Stores.{HasRoom, IsWithin}
+use Rattle.chv_store.specs.declared.store.Store.{Store}
+use Rattle.chv_history.specs.Crashes.{IsLeftBy}
+use Rattle.chv_history.specs.Events.{Event, Moment, Plan, behind, happen, written_in}
+use Rattle.chv_history.specs.Kept.{Kept, kept_delivery, kept_plan}
+use Rattle.chv_history.specs.Runs.{delivery_event, written_of}
+use Rattle.chv_history.specs.Tasks.{deliveries_to, has_room}
+use Rattle.chv_history.proofs.LeftLemmas.{behind-append, early, onward}
+use Rattle.chv_engine.specs.Answers.{HoldsKept, IsAt}
+use Rattle.chv_engine.specs.Deliveries.{Delivers}
+use Rattle.chv_engine.proofs.AnswerLemmas.{moment_still}
+use Rattle.chv_engine.proofs.DeliverLemmas.{no_answer, nothing_ok}
+
+-- there are as many deliveries as are held
+pub delivers-length : (tables : List TableDef) (plan : List HeldDelivery) (all : List Delivery) → DeliversAll tables plan all → length all ≡ length plan
+delivers-length tables [] [] delivers = refl
+delivers-length tables [] (delivery ∷ all) delivers = absurd delivers
+delivers-length tables (held ∷ plan) [] delivers = absurd delivers
+delivers-length tables (held ∷ plan) (delivery ∷ all) delivers = omega (arith, delivers-length tables plan all delivers.1)
+
+-- and they go to the same tables
+pub delivers-table : (tables : List TableDef) (plan : List HeldDelivery) (all : List Delivery) (table : ℕ) → DeliversAll tables plan all → All (λ (held : HeldDelivery). held.table ≡ table) plan → All (λ (d : Delivery). d.table ≡ table) all
+delivers-table tables [] [] table delivers same = All-nil (λ (d : Delivery). d.table ≡ table)
+delivers-table tables [] (delivery ∷ all) table delivers same = absurd delivers
+delivers-table tables (held ∷ plan) [] table delivers same = absurd delivers
+delivers-table tables (held ∷ plan) (delivery ∷ all) table delivers same =
+    All-cons (λ (d : Delivery). d.table ≡ table) delivery all (sym delivers.0.table ∙ All-head (λ (h : HeldDelivery). h.table ≡ table) held plan same)
+    (delivers-table tables plan all table delivers.1 (All-tail (λ (h : HeldDelivery). h.table ≡ table) held plan same))
+
+-- what is held at a place is that of the delivery there, which is the last of those up to it
+pub record DeliversAt (tables : List TableDef) (held : HeldDelivery) (place : ℕ) (all : List Delivery) : Type 0 where
+  pub delivery : Delivery
+  pub delivers : IsHeldDelivery tables held delivery
+  pub next : take (place + 1) all ≡ take place all ++ delivery ∷ []
+
+pub delivers-at : (tables : List TableDef) (plan : List HeldDelivery) (all : List Delivery) (place : ℕ) (held : HeldDelivery) → DeliversAll tables plan all → slice_get plan place ≡ Some held → DeliversAt tables held place all
+delivers-at tables [] all place held delivers there = absurd (cc there)
+delivers-at tables (first ∷ plan) [] place held delivers there = absurd delivers
+delivers-at tables (first ∷ plan) (delivery ∷ all) zero held delivers there = record {
+  delivery = delivery;
+  delivers = let same : first ≡ held = cc there in subst (λ (h : HeldDelivery). IsHeldDelivery tables h delivery) same delivers.0;
+  next = refl;
+}
+delivers-at tables (first ∷ plan) (delivery ∷ all) (suc place) held delivers there =
+    let at = delivers-at tables plan all place held delivers.1 there in
+    let same : suc place + 1 ≡ suc (place + 1) = omega arith in
+    record {
+      delivery = at.delivery;
+      delivers = at.delivers;
+      next = ap (λ (n : ℕ). take n (delivery ∷ all)) same ∙ ap (λ (l : List Delivery). delivery ∷ l) at.next;
+    }
+
+-- a store has room for less where it has room for more
+pub room_less : (store : Store) (less more table : ℕ) → less ≤ more → HasRoom more store table → HasRoom less store table
+room_less store less more table fewer room = record {
+  is_table = room.is_table;
+  held = room.held;
+  stands = room.stands;
+  room = record { in_memory = omega (arith, fewer, room.room.in_memory); in_number = omega (arith, fewer, room.room.in_number) };
+}
+
+-- the events of some deliveries and then of others, and what is held and counted behind them
+pub behind_plan : (xs ys : Plan) (m : Moment) → behind (map delivery_event (xs ++ ys)) m ≡ behind (map delivery_event ys) (behind (map delivery_event xs) m)
+behind_plan xs ys m = ap (λ (events : List Event). behind events m) (map-append delivery_event xs ys) ∙ behind-append (map delivery_event xs) (map delivery_event ys) m
+
+pub kept_plan-append : (xs ys : Plan) (kept : Kept) → kept_plan (xs ++ ys) kept ≡ kept_plan ys (kept_plan xs kept)
+kept_plan-append [] ys kept = refl
+kept_plan-append (x ∷ xs) ys kept = kept_plan-append xs ys (kept_delivery x kept)
+
+pub written_of-append : (xs ys : Plan) (m : Moment) → written_of (xs ++ ys) m.history ≡ written_of xs m.history + written_of ys (behind (map delivery_event xs) m).history
+written_of-append [] ys m = omega arith
+written_of-append (x ∷ xs) ys m =
+    let first = length (written_in x.table (x.entry ∷ []) m.history) in
+    let later = happen (delivery_event x) m in
+    let rest : written_of (xs ++ ys) later.history ≡ written_of xs later.history + written_of ys (behind (map delivery_event xs) later).history = written_of-append xs ys later in
+    ap (λ (n : ℕ). first + n) rest ∙ omega arith
+
+-- no delivery was made yet
+pub delivers_none : (tells : Type 0) (was : Store) (old : Outside) → IsWithin was → (tells → (image : Image) (text : List ℕ) → old.left_since old.moment image text → IsLeft old.files old.said image text)
+    → Delivers tells [] (Ok 0) was was old old
+delivers_none tells was old within only_now = record {
+  delivered = λ tell before m at. (at, refl);
+  during = λ tell before m at. moment_still was old old before [] m within at (started old (IsLeft old.files old.said) (only_now tell));
+  kept = λ kept has. has;
+  logged = λ tell logged. logged;
+  said = λ tell. refl;
+}
+
+-- after an error, whatever it is
+pub delivers_err : (tells : Type 0) (plan : Plan) (one other : Result ℕ Failed) (was is : Store) (old new : Outside) → IsErr other → Delivers tells plan one was is old new → Delivers tells plan other was is old new
+delivers_err tells plan one other was is old new err made = record {
+  delivered = λ tell. no_answer other _ err;
+  during = made.during;
+  kept = nothing_ok other _ err;
+  logged = λ tell. nothing_ok other _ err;
+  said = made.said;
+}
+
+-- so many more were written
+abbrev pub and_more : ℕ → Result ℕ Failed → Result ℕ Failed
+and_more written (Ok more) = Ok (written + more)
+and_more written (Err failed) = Err failed
+
+module _ (tells : Type 0) (xs ys : Plan) (was mid is : Store) (old between new : Outside) (written : ℕ) (first : Delivers tells xs (Ok written) was mid old between) where
+  events_are : map delivery_event xs ++ map delivery_event ys ≡ map delivery_event (xs ++ ys)
+  events_are = sym (map-append delivery_event xs ys)
+
+  -- what a crash leaves of others behind them
+  both_during : (before : List ℕ) (m : Moment) → During old between (IsLeftBy (map delivery_event xs) before m) → During between new (IsLeftBy (map delivery_event ys) before (behind (map delivery_event xs) m))
+      → During old new (IsLeftBy (map delivery_event (xs ++ ys)) before m)
+  both_during before m one two =
+      let start = map delivery_event xs in
+      let rest = map delivery_event ys in
+      subst (λ (events : List Event). During old new (IsLeftBy events before m)) events_are
+      (goes_on old between new (IsLeftBy (start ++ rest) before m) (IsLeftBy rest before (behind start m))
+      (weakened old between (IsLeftBy start before m) (IsLeftBy (start ++ rest) before m) one (λ image text left. early start rest before m image text left)) two
+      (λ image text left. onward start rest before m image text left))
+
+  all_at : (before : List ℕ) (m : Moment) (more : ℕ) → IsAt mid between before (behind (map delivery_event xs) m) × (written ≡ written_of xs m.history)
+      → IsAt is new before (behind (map delivery_event ys) (behind (map delivery_event xs) m)) × (more ≡ written_of ys (behind (map delivery_event xs) m).history)
+      → IsAt is new before (behind (map delivery_event (xs ++ ys)) m) × (written + more ≡ written_of (xs ++ ys) m.history)
+  all_at before m more one two =
+      (subst (IsAt is new before) (sym (behind_plan xs ys m)) two.0, ap₂ (λ (a b : ℕ). a + b) one.1 two.1 ∙ sym (written_of-append xs ys m))
+
+  -- deliveries were made, and then others, or not
+  pub delivers_then : (result : Result ℕ Failed) → Delivers tells ys result mid is between new → Delivers tells (xs ++ ys) (and_more written result) was is old new
+  delivers_then (Ok more) second = record {
+    delivered = λ tell before m at. let one = first.delivered tell before m at in all_at before m more one (second.delivered tell before (behind (map delivery_event xs) m) one.0);
+    during = λ tell before m at. both_during before m (first.during tell before m at) (second.during tell before (behind (map delivery_event xs) m) (first.delivered tell before m at).0);
+    kept = λ kept has. subst (HoldsKept is) (sym (kept_plan-append xs ys kept)) (second.kept (kept_plan xs kept) (first.kept kept has));
+    logged = λ tell logged. second.logged tell (first.logged tell logged);
+    said = λ tell. second.said tell ∙ first.said tell;
+  }
+  delivers_then (Err failed) second = record {
+    delivered = λ tell. tt;
+    during = λ tell before m at. both_during before m (first.during tell before m at) (second.during tell before (behind (map delivery_event xs) m) (first.delivered tell before m at).0);
+    kept = tt;
+    logged = λ tell. tt;
+    said = λ tell. second.said tell ∙ first.said tell;
+  }
+
+-- a delivery that was not made ends them all
+pub delivers_early : (tells : Type 0) (xs ys : Plan) (result : Result ℕ Failed) (was is : Store) (old new : Outside) → IsErr result → Delivers tells xs result was is old new → Delivers tells (xs ++ ys) result was is old new
+delivers_early tells xs ys result was is old new err made = record {
+  delivered = λ tell. no_answer result _ err;
+  during = λ tell before m at.
+      subst (λ (events : List Event). During old new (IsLeftBy events before m)) (sym (map-append delivery_event xs ys))
+      (weakened old new (IsLeftBy (map delivery_event xs) before m) (IsLeftBy (map delivery_event xs ++ map delivery_event ys) before m) (made.during tell before m at)
+      (λ image text left. early (map delivery_event xs) (map delivery_event ys) before m image text left));
+  kept = nothing_ok result _ err;
+  logged = λ tell. nothing_ok result _ err;
+  said = made.said;
+}
+
+-- the next delivery at a place is made, or not
+module _ (tells : Type 0) (tables : List TableDef) (held : HeldDelivery) (place : ℕ) (all : Plan) (next : DeliversAt tables held place all) (was mid is : Store) (old between new : Outside) (written : ℕ)
+    (first : Delivers tells (take place all) (Ok written) was mid old between) where
+  pub delivers_next : (more : ℕ) → Delivers tells (next.delivery ∷ []) (Ok more) mid is between new → Delivers tells (take (place + 1) all) (Ok (written + more)) was is old new
+  delivers_next more one =
+      subst (λ (plan : Plan). Delivers tells plan (Ok (written + more)) was is old new) (sym next.next)
+      (delivers_then tells (take place all) (next.delivery ∷ []) was mid is old between new written first (Ok more) one)
+
+  pub delivers_ended : (result ends : Result ℕ Failed) → IsErr ends → Delivers tells (next.delivery ∷ []) result mid is between new → Delivers tells all ends was is old new
+  delivers_ended result ends err one =
+      let both = delivers_then tells (take place all) (next.delivery ∷ []) was mid is old between new written first result one in
+      let some : Delivers tells (take (place + 1) all) ends was is old new =
+      subst (λ (plan : Plan). Delivers tells plan ends was is old new) (sym next.next) (delivers_err tells (take place all ++ next.delivery ∷ []) (and_more written result) ends was is old new err both) in
+      subst (λ (plan : Plan). Delivers tells plan ends was is old new) (take-append-drop (place + 1) all)
+      (delivers_early tells (take (place + 1) all) (drop (place + 1) all) ends was is old new err some)
 
 -- all deliveries go to the one table
-deliveries_to-all : (table : ℕ) (plan : List Delivery) → All (λ (d : Delivery). d.table ≡ table) plan → deliveries_to table plan ≡ length plan
+deliveries_to-all : (table : ℕ) (plan : Plan) → All (λ (d : Delivery). d.table ≡ table) plan → deliveries_to table plan ≡ length plan
 deliveries_to-all table [] same = refl
 deliveries_to-all table (d ∷ plan) same =
     let first : d.table ≡ table = All-head (λ (d : Delivery). d.table ≡ table) d plan same in
@@ -34,109 +194,29 @@ deliveries_to-all table (d ∷ plan) same =
     ap (λ (b : Bool). length (cond b (d ∷ kept) kept)) (eq-eqb d.table table first) ∙ omega (arith, rest)
 
 -- whether a table has room for so many deliveries
-abbrev fits : ℕ → ℕ → History → Bool
-fits table count history = not (nat_lt MAX_ENTRIES (length (history.books table).entries + count))
+abbrev pub fits : (ℕ → ℕ) → ℕ → ℕ → Bool
+fits entries table count = not (nat_lt MAX_ENTRIES (entries table + count))
 
--- where that holds of the one table, it holds of each of the deliveries
-fit_all : (table count : ℕ) (history : History) (all plan : List Delivery) → deliveries_to table all ≡ count → fits table count history ≡ true → All (λ (d : Delivery). d.table ≡ table) plan
-    → list_all (λ (d : Delivery). fits d.table (deliveries_to d.table all) history) plan ≡ true
-fit_all table count history all [] many room same = refl
-fit_all table count history all (d ∷ plan) many room same =
+-- what is true of each of some is true of all, where there are some
+fit_all : (entries : ℕ → ℕ) (table count : ℕ) (all plan : Plan) → deliveries_to table all ≡ count → fits entries table count ≡ true → All (λ (d : Delivery). d.table ≡ table) plan
+    → list_all (λ (d : Delivery). fits entries d.table (deliveries_to d.table all)) plan ≡ true
+fit_all entries table count all [] many room same = refl
+fit_all entries table count all (d ∷ plan) many room same =
     let first : d.table ≡ table = All-head (λ (d : Delivery). d.table ≡ table) d plan same in
-    let rest = fit_all table count history all plan many room (All-tail (λ (d : Delivery). d.table ≡ table) d plan same) in
-    let here : fits d.table (deliveries_to d.table all) history ≡ true = ap (λ (n : ℕ). fits n (deliveries_to n all) history) first ∙ ap (λ (n : ℕ). fits table n history) many ∙ room in
-    grind (arith, here, rest)
+    let rest = fit_all entries table count all plan many room (All-tail (λ (d : Delivery). d.table ≡ table) d plan same) in
+    let here : fits entries d.table (deliveries_to d.table all) ≡ true = ap (λ (n : ℕ). fits entries n (deliveries_to n all)) first ∙ ap (fits entries table) many ∙ room in
+    ap₂ (λ (a b : Bool). a && b) here rest
 
--- and where it does not, not
-fit_none : (table count : ℕ) (history : History) (all plan : List Delivery) → 1 ≤ length plan → deliveries_to table all ≡ count → fits table count history ≡ false → All (λ (d : Delivery). d.table ≡ table) plan
-    → list_all (λ (d : Delivery). fits d.table (deliveries_to d.table all) history) plan ≡ false
-fit_none table count history all [] some many full same = absurd (omega (arith, some))
-fit_none table count history all (d ∷ plan) some many full same =
+fit_none : (entries : ℕ → ℕ) (table count : ℕ) (all plan : Plan) → 1 ≤ length plan → deliveries_to table all ≡ count → fits entries table count ≡ false → All (λ (d : Delivery). d.table ≡ table) plan
+    → list_all (λ (d : Delivery). fits entries d.table (deliveries_to d.table all)) plan ≡ false
+fit_none entries table count all [] some many full same = absurd (omega (arith, some))
+fit_none entries table count all (d ∷ plan) some many full same =
     let first : d.table ≡ table = All-head (λ (d : Delivery). d.table ≡ table) d plan same in
-    let here : fits d.table (deliveries_to d.table all) history ≡ false = ap (λ (n : ℕ). fits n (deliveries_to n all) history) first ∙ ap (λ (n : ℕ). fits table n history) many ∙ full in
-    grind (arith, here)
+    let rest = list_all (λ (e : Delivery). fits entries e.table (deliveries_to e.table all)) plan in
+    let here : fits entries d.table (deliveries_to d.table all) ≡ false = ap (λ (n : ℕ). fits entries n (deliveries_to n all)) first ∙ ap (fits entries table) many ∙ full in
+    ap (λ (a : Bool). a && rest) here
 
-module _ (table : ℕ) (plan : List Delivery) (same : All (λ (d : Delivery). d.table ≡ table) plan) (history : History) where
-  -- an insert to one table has room where the table has
-  has_room_for : length (history.books table).entries + length plan ≤ MAX_ENTRIES → has_room plan history ≡ true
-  has_room_for short = let room : fits table (length plan) history ≡ true = grind (arith, nat_tests, short) in fit_all table (length plan) history plan plan (deliveries_to-all table plan same) room same
-
-  has_no_room : 1 ≤ length plan → MAX_ENTRIES < length (history.books table).entries + length plan → has_room plan history ≡ false
-  has_no_room some full = let none : fits table (length plan) history ≡ false = grind (arith, nat_tests, full) in fit_none table (length plan) history plan plan some (deliveries_to-all table plan same) none same
-
--- so it is by what is held of the plan
-module _ (tables : List TableDef) (held : List HeldDelivery) (plan : List Delivery) (delivers : DeliversAll tables held plan) (table : ℕ) (one : All (λ (h : HeldDelivery). h.table ≡ table) held) (d : HeldDelivery) (some : 1 ≤ length held)
-    (history : History) where
-  -- the table of the first delivery is that of all, and there are as many as are held
-  abbrev first_table : ℕ
-  first_table = (get_or held 0 d).table
-
-  same_tables : All (λ (delivery : Delivery). delivery.table ≡ first_table) plan
-  same_tables = let is : table ≡ first_table = sym (one 0 d some) in subst (λ (n : ℕ). All (λ (delivery : Delivery). delivery.table ≡ n) plan) is (delivers-table tables held plan table delivers one)
-
-  many : length plan ≡ length held
-  many = delivers-length tables held plan delivers
-
-  pub plan_room : length (history.books first_table).entries + length held ≤ MAX_ENTRIES → has_room plan history ≡ true
-  plan_room short = has_room_for first_table plan same_tables history (omega (arith, short, many))
-
-  pub plan_full : MAX_ENTRIES < length (history.books first_table).entries + length held → has_room plan history ≡ false
-  plan_full full = has_no_room first_table plan same_tables history (omega (arith, some, many)) (omega (arith, full, many))
-
--- what comes of an insert by whether there is room
-abbrev insert_by : Bool → ℕ → Plan → History → List Event
-insert_by room client plan history = if room then insert_into client plan history else refusal client LimitPassed
-
--- with room, and without
-pub insert_events-room : (client : ℕ) (plan : Plan) (history : History) → has_room plan history ≡ true → insert_events client (Ok plan) history ≡ insert_into client plan history
-insert_events-room client plan history room = ap (λ (b : Bool). insert_by b client plan history) room
-
-pub insert_events-full : (client : ℕ) (plan : Plan) (history : History) → has_room plan history ≡ false → insert_events client (Ok plan) history ≡ refusal client LimitPassed
-insert_events-full client plan history full = ap (λ (b : Bool). insert_by b client plan history) full
-
--- no delivery refuses the statement
-refused_kept : (plan : List Delivery) (history : History) (m : Moment) → (behind (delivery_events plan history) m).refused ≡ m.refused
-refused_kept [] history m = refl
-refused_kept (d ∷ plan) history m =
-    elim (is_skipped d history) as (λ skips. (behind (if skips then delivery_events plan history else Committed d ∷ delivery_events plan (delivered d history)) m).refused ≡ m.refused) [
-      | true ↦ refused_kept plan history m
-      | false ↦ refused_kept plan (delivered d history) (happen (Committed d) m)
-    ]
-
--- what a crash leaves of the deliveries is left by the insert
-pub plan_early : {S : Type 0} (moment : S → ℕ) (left_since : S → ℕ → Image → List ℕ → Type 0) (client : ℕ) (plan : Plan) (before : List ℕ) (m : Moment) (old new : S)
-    → During moment left_since old new (IsLeftBy (delivery_events plan m.history) before m) → During moment left_since old new (IsLeftBy (insert_into client plan m.history) before m)
-plan_early moment left_since client plan before m old new during =
-    weakened moment left_since old new (IsLeftBy (delivery_events plan m.history) before m) (IsLeftBy (insert_into client plan m.history) before m) during
-    (λ image text left. early (delivery_events plan m.history) _ before m image text left)
-
-module _ (client : ℕ) (plan : Plan) (store : Store) (files : FileId → FileState) (said before : List ℕ) (m : Moment) (within : IsWithin store) (at : IsAt store files said before (behind (delivery_events plan m.history) m)) where
-  -- the events of its deliveries, the line of its reply, and the event of that
-  abbrev events : List Event
-  events = delivery_events plan m.history
-
-  abbrev line : List ℕ
-  line = insert_line client (length events) (length plan - length events)
-
-  abbrev replied : List Event
-  replied = Replied line (plan ∷ []) false ∷ []
-
-  -- behind all deliveries the reply is said
-  pub plan_answers : (new : FileId → FileState) (now : List ℕ) → KeepsFiles files new → now ≡ said ++ line → AnswersAs store new now before false (insert_into client plan m.history) m
-  plan_answers new now kept added =
-      let answers = replied_at store files new said now before line (plan ∷ []) false (behind events m) within at kept added in
-      let same : behind (events ++ replied) m ≡ behind replied (behind events m) = behind-append events replied m in
-      record {
-        at = subst (IsAt store new now before) (sym same) answers.at;
-        mark = ap (λ (n : Moment). n.refused) same ∙ answers.mark ∙ ap (λ (b : Bool). b || false) (refused_kept plan m.history m);
-      }
-
-  module _ {S : Type 0} (moment : S → ℕ) (left_since : S → ℕ → Image → List ℕ → Type 0) where
-    -- while that is done
-    pub plan_during : (old mid new : S) → During moment left_since old mid (IsLeftBy events before m) → During moment left_since mid new (IsLeftSaying files said line)
-        → During moment left_since old new (IsLeftBy (insert_into client plan m.history) before m)
-    plan_during old mid new one two =
-        goes_on moment left_since old mid new (IsLeftBy (insert_into client plan m.history) before m) (IsLeftBy replied before (behind events m))
-        (plan_early moment left_since client plan before m old mid one)
-        (reply_during moment left_since mid new store files said before line (plan ∷ []) false (behind events m) within at two)
-        (λ image text left. onward events replied before m image text left)
+-- an insert to one table has room exactly where the table has
+pub has_room-one : (entries : ℕ → ℕ) (table : ℕ) (plan : Plan) (room : Bool) → 1 ≤ length plan → All (λ (d : Delivery). d.table ≡ table) plan → fits entries table (length plan) ≡ room → has_room plan entries ≡ room
+has_room-one entries table plan true some same is = fit_all entries table (length plan) plan plan (deliveries_to-all table plan same) is same
+has_room-one entries table plan false some same is = fit_none entries table (length plan) plan plan some (deliveries_to-all table plan same) is same

@@ -1,7 +1,7 @@
 -- What pulls add up to.
-use Rattle.std.proofs.Common.{◌≡◌, ℕ, ◌-◌, ◌<◌, ◌≤◌, ◌^◌, List, [], ◌++◌, length, take, sym, ap, subst, ◌∙◌, arith, append_assoc, length-append, length-take}
+use Rattle.std.proofs.Common.{◌≡◌, ℕ, ◌-◌, ◌<◌, ◌≤◌, List, [], ◌++◌, length, take, sym, ap, subst, ◌∙◌, arith, append_assoc, length-append, length-take}
 use Rattle.std.proofs.lemmas.List.{append-nil}
-use Rattle.chv_engine.specs.Pulls.{PulledTooMuch}
+use Rattle.chv_engine.specs.Pulls.{MAX_SCRIPT, MAX_PULL, PulledTooMuch}
 
 module _ (first script left next chunk : List ℕ) (count : ℕ) (so_far : first ≡ script ++ left) (pulled : left ≡ take count chunk ++ next) where
   -- a pull goes on
@@ -15,5 +15,10 @@ module _ (first script left next chunk : List ℕ) (count : ℕ) (so_far : first
       (sym (so_far ∙ ap (λ (l : List ℕ). script ++ l) empty ∙ append-nil script), sym same ∙ empty)
 
   -- a pull past the bound
-  pub pulled_too_much : count ≤ length chunk → 2 ^ 26 - length script < count → PulledTooMuch first next
-  pulled_too_much within past = (script ++ take count chunk, pulled_on, omega (arith, within, past, length-append script (take count chunk), length-take count chunk))
+  pub pulled_too_much : length script ≤ MAX_SCRIPT → count ≤ length chunk → count ≤ MAX_PULL → MAX_SCRIPT - length script < count → PulledTooMuch first next
+  pulled_too_much kept within small past = record {
+    pulled = script ++ take count chunk;
+    is = pulled_on;
+    more = omega (arith, within, past, length-append script (take count chunk), length-take count chunk);
+    stops = omega (arith, kept, within, small, length-append script (take count chunk), length-take count chunk);
+  }

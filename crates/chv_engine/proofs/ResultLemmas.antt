@@ -1,6 +1,6 @@
 -- What holds of results.
-use Rattle.std.proofs.Common.{◌≡◌, Ok, Err, IfOk, OnOk, sym, subst}
-use Rattle.std.specs.Prelude.{Result, Bool}
+use Rattle.std.proofs.Common.{◌≡◌, Bool, Ok, Err, IfOk, OnOk, sym, subst}
+use Rattle.std.specs.Prelude.{Result}
 
 pub if_ok_with : {T E : Type 0} (r : Result T E) (A : Type 0) (P Q : T → Type 0) → ((x : T) → A → P x → Q x) → OnOk r A → IfOk r P → IfOk r Q
 if_ok_with (Ok x) A P Q so a p = so x a p

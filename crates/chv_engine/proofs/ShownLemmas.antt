@@ -1,111 +1,193 @@
--- The table of a number, as it is shown.
-use Rattle.std.proofs.Common.{◌≡◌, ℕ, ◌+◌, ◌-◌, ◌≤◌, List, [], ◌∷◌, ◌++◌, length, map, false, Some, Ok, slice_get, slice_index_or, pos, All, refl, sym, ap, ap₂, subst, ◌∙◌, arith}
+-- How the rows and the parts of a table are told.
+use Rattle.std.proofs.Common.{◌≡◌, ℕ, ◌-◌, Bool, false, List, [], ◌∷◌, ◌++◌, length, map, Ok, Err, Some, slice_get, pos, All, refl, sym, ap, ap₂, subst, ◌∙◌, arith}
+use Rattle.std.specs.Prelude.{Result}
 use Rattle.std.proofs.lemmas.List.{length-map}
 use Rattle.std.proofs.lemmas.List.Elements.{All-head, All-tail, All-weaker}
-use Rattle.std.proofs.lemmas.Option.{get_or_from_slice_get}
-use Rattle.std.specs.Prelude.{Result}
+use Rattle.std.proofs.lemmas.Result.{on_ok_weaker}
 use Rattle.chv_ast.specs.declared.refusal.Refusal.{Refusal}
-use Rattle.chv_catalog.specs.Schemas.{kinds_of}
 use Rattle.chv_catalog.specs.declared.table_def.TableDef.{TableDef}
-use Rattle.chv_commit.specs.Replays.{span_of}
+use Rattle.chv_commit.specs.Replays.{State, span_of}
 use Rattle.chv_commit.specs.declared.part_row.PartRow.{PartRow}
-use Rattle.chv_part.specs.Books.{TableForm, Book, part_rows}
+use Rattle.chv_define.specs.Accepted.{catalog_payload}
+use Rattle.chv_define.specs.Definitions.{and_then}
+use Rattle.chv_merge.specs.NormalForms.{normal_form}
+use Rattle.chv_part.specs.Books.{TableForm, Book, normal_rows, part_rows, rows_in}
+use Rattle.chv_part.specs.Forms.{form_of}
 use Rattle.chv_part.specs.Standing.{IsPart}
 use Rattle.chv_part.specs.declared.damage.Damage.{Damage}
-use Rattle.chv_plan.specs.Plans.{table_of}
+use Rattle.chv_site.specs.Effects.{OnlyReads}
+use Rattle.chv_site.specs.Faults.{HasRisen}
+use Rattle.chv_site.specs.Files.{FileState, IsFrontOf}
+use Rattle.chv_site.specs.Images.{IsLeft, IsLeftSaying}
+use Rattle.chv_site.specs.Outside.{Outside, bytes_in}
 use Rattle.chv_site.specs.declared.file_id.FileId.{FileId}
-use Rattle.chv_site.specs.Files.{FileState}
-use Rattle.chv_table.specs.Damage.{IsPartDamage}
-use Rattle.chv_table.specs.Tables.{HoldsBook, settled_part}
+use Rattle.chv_site.proofs.Images.{kept_image}
+use Rattle.chv_site.proofs.Moments.{goes_on, weakened}
+use Rattle.chv_store.specs.Holding.{HoldsBooks}
+use Rattle.chv_store.specs.Stores.{IsTable, IsUsable, IsWithin, state_of}
+use Rattle.chv_store.specs.declared.store.Store.{Store}
+use Rattle.chv_store.proofs.PlaceLemmas.{its_book, its_form, its_state}
+use Rattle.chv_table.specs.Damage.{ArePartsWhole, IsPartDamage}
+use Rattle.chv_table.specs.Tables.{HoldsBook, held_form, held_state}
+use Rattle.chv_table.specs.declared.fault.TableFault.{TableFault}
+use Rattle.chv_table.specs.declared.fault.TableFault.TheVariants as table_fault
 use Rattle.chv_table.specs.declared.table.Table.{Table}
+use Rattle.chv_table.proofs.RowsLemmas.{part_damage_excludes, part_damage_unique}
 use Rattle.chv_text.specs.Replies.{rows_line}
 use Rattle.chv_text.specs.Rows.{rows_text}
-use Rattle.chv_types.specs.declared.kind.Kind.{Kind}
 use Rattle.chv_types.specs.declared.value.Value.{Value}
 use Rattle.chv_types.specs.declared.value.Value.TheVariants.{Whole}
-use Rattle.chv_engine.specs.Histories.{History, tables_of}
+use Rattle.chv_history.specs.Events.{Moment, Replied}
+use Rattle.chv_history.specs.Histories.{book_of}
+use Rattle.chv_history.specs.Tasks.{Task, TellParts, TellRows}
+use Rattle.chv_history.specs.Told.{answer_of, part_told, parts_text, shown_text}
+use Rattle.chv_history.proofs.LeftLemmas.{nothing_more}
+use Rattle.chv_history.proofs.LookupLemmas.{IsNamed}
+use Rattle.chv_engine.specs.Answers.{Answers, IsAt, MeetsDamage, Replies, Wish, parts_wish}
+use Rattle.chv_engine.specs.Faults.{CountsRun, table_fault_of}
 use Rattle.chv_engine.specs.Parts.{row_told}
-use Rattle.chv_engine.specs.Runs.{Replied, part_told, parts_text, parts_events}
-use Rattle.chv_engine.specs.Stores.{IsHeldAs, IsWithin, HoldsTable, Holds}
-use Rattle.chv_engine.specs.declared.store.Store.{Store}
-use Rattle.chv_engine.proofs.EachTableLemmas.{TableAt, each-at}
-use Rattle.chv_engine.proofs.LookupLemmas.{IsNamed}
-
--- one place has one table
-pub one_table : (a b : Table) → Some a ≡ Some b → a ≡ b
-one_table a b same = cc
-
--- the table at a place is the one of that number and of the definition there
-table_is : (P : ℕ → TableDef → Table → Type 0) (number : ℕ) (def : TableDef) (tables : List Table) (table : Table) → 1 ≤ number → table ≡ slice_index_or tables (number - 1) table
-    → TableAt P 1 (number - 1) def tables → (slice_get tables (number - 1) ≡ Some table) × P number def table
-table_is P number def tables table first is at =
-    let same : table ≡ at.table = is ∙ get_or_from_slice_get tables (number - 1) at.table table at.stands in
-    let counted : 1 + (number - 1) ≡ number = omega (arith, first) in (
-      subst (λ (t : Table). slice_get tables (number - 1) ≡ Some t) (sym same) at.stands,
-      subst (λ (t : Table). P number def t) (sym same) (subst (λ (n : ℕ). P n def at.table) counted at.holds),
-    )
-
-module _ (store : Store) (number : ℕ) (def : TableDef) (table : Table) (first : 1 ≤ number) (stands : slice_get store.schema.tables (number - 1) ≡ Some def)
-    (is : table ≡ slice_index_or store.tables.items (number - 1) table) where
-  -- it has its numbers
-  pub shown_held : IsWithin store → (slice_get store.tables.items (number - 1) ≡ Some table) × IsHeldAs number def table
-  shown_held within = table_is IsHeldAs number def store.tables.items table first is (each-at IsHeldAs 1 (number - 1) store.schema.tables store.tables.items def within.tables stands)
-
-  -- and its book
-  pub shown_book : (files : FileId → FileState) (history : History) → Holds store files history → HoldsBook table files (history.books number)
-  shown_book files history held =
-      (table_is (HoldsTable files history) number def store.tables.items table first is (each-at (HoldsTable files history) 1 (number - 1) store.schema.tables store.tables.items def held.tables stands)).1
-
--- what is held of a table says the kinds and the key of its definition
-pub held_kinds : (number : ℕ) (def : TableDef) (table : Table) → IsHeldAs number def table → table.kinds ≡ kinds_of def
-held_kinds number def table held = ap (λ (form : TableForm). form.kinds) held.1.form_is
-
-pub held_key : (number : ℕ) (def : TableDef) (table : Table) → IsHeldAs number def table → table.key ≡ def.key
-held_key number def table held = ap (λ (form : TableForm). form.key) held.1.form_is
-
--- what is damaged of a table is damaged of its definition's
-pub damage_of_def : (number : ℕ) (def : TableDef) (table : Table) (layout : List PartRow) (files : FileId → List ℕ) (damage : Damage) → IsHeldAs number def table
-    → IsPartDamage table.number table.kinds layout files damage → IsPartDamage number (kinds_of def) layout files damage
-damage_of_def number def table layout files damage held is =
-    subst (λ (n : ℕ). IsPartDamage n (kinds_of def) layout files damage) held.1.number_is
-    (subst (λ (kinds : List Kind). IsPartDamage table.number kinds layout files damage) (held_kinds number def table held) is)
-
-pub damage_of_table : (number : ℕ) (def : TableDef) (table : Table) (layout : List PartRow) (files : FileId → List ℕ) (damage : Damage) → IsHeldAs number def table
-    → IsPartDamage number (kinds_of def) layout files damage → IsPartDamage table.number table.kinds layout files damage
-damage_of_table number def table layout files damage held is =
-    subst (λ (n : ℕ). IsPartDamage n table.kinds layout files damage) (sym held.1.number_is)
-    (subst (λ (kinds : List Kind). IsPartDamage number kinds layout files damage) (sym (held_kinds number def table held)) is)
+use Rattle.chv_engine.specs.declared.fault.RunFault.{RunFault}
+use Rattle.chv_engine.specs.declared.fault.RunFault.TheVariants.{Disk, Damaged, NoMemory}
+use Rattle.chv_engine.proofs.AnswerLemmas.{counts_read, damaged_answers, entries_held, failed_answers, held_at, holds_itself, replied_answers}
 
 -- live parts that hold the rows of their entries are told as the book's
-rows_told : (key : List ℕ) (book : Book) (rows : List PartRow) → All (λ (row : PartRow). row.rows ≡ length (part_rows key book row.lo row.hi)) rows
-    → map row_told rows ≡ map (part_told key book) (map span_of rows)
-rows_told key book [] counted = refl
-rows_told key book (row ∷ rows) counted =
-    let P : PartRow → Type 0 = λ row. row.rows ≡ length (part_rows key book row.lo row.hi) in
+rows_told : (form : TableForm) (book : Book) (rows : List PartRow) → All (λ (row : PartRow). row.rows ≡ length (part_rows form book row.lo row.hi)) rows
+    → map row_told rows ≡ map (part_told form book) (map span_of rows)
+rows_told form book [] counted = refl
+rows_told form book (row ∷ rows) counted =
+    let P : PartRow → Type 0 = λ row. row.rows ≡ length (part_rows form book row.lo row.hi) in
     ap₂ (λ (count : ℕ) (rest : List (List Value)). (Whole (pos row.lo) ∷ (Whole (pos row.hi) ∷ (Whole (pos row.level) ∷ (Whole (pos count) ∷ [])))) ∷ rest)
-    (All-head P row rows counted) (rows_told key book rows (All-tail P row rows counted))
+    (All-head P row rows counted) (rows_told form book rows (All-tail P row rows counted))
+
+-- what is told of live parts
+abbrev pub told_text : ℕ → List PartRow → List ℕ
+told_text client rows = rows_text (map row_told rows) ++ rows_line client (length rows)
 
 -- what is held of a table's parts tells its book's
-pub parts_text-held : (client : ℕ) (table : Table) (files : FileId → FileState) (book : Book) → HoldsBook table files book
-    → rows_text (map row_told table.layout.items) ++ rows_line client (length table.layout.items) ≡ parts_text client table.key book
+parts_text-held : (client : ℕ) (table : Table) (files : FileId → FileState) (book : Book) → HoldsBook table files book
+    → told_text client (held_state table).layout ≡ parts_text client (held_form table) book
 parts_text-held client table files book held =
-    let rows = table.layout.items in
-    let layout : book.layout ≡ map span_of rows = held.describes.layout in
-    let told : map row_told rows ≡ map (part_told table.key book) book.layout =
-    rows_told table.key book rows (All-weaker (IsPart files (settled_part table.kinds) table.number table.key book) (λ (row : PartRow). row.rows ≡ length (part_rows table.key book row.lo row.hi)) (λ row is. is.counted) rows held.parts)
-    ∙ ap (map (part_told table.key book)) (sym layout) in
-    ap₂ (λ (lines : List (List Value)) (count : ℕ). rows_text lines ++ rows_line client count) told (sym (length-map rows span_of) ∙ sym (ap length layout))
+    let rows = (held_state table).layout in
+    let form = held_form table in
+    let told : map row_told rows ≡ map (part_told form book) book.layout =
+    rows_told form book rows (All-weaker (IsPart (λ f. (files f).bytes) table.number form book) (λ (row : PartRow). row.rows ≡ length (part_rows form book row.lo row.hi)) (λ row is. is.counted) rows held.parts)
+    ∙ ap (map (part_told form book)) (sym held.describes.layout) in
+    ap₂ (λ (lines : List (List Value)) (count : ℕ). rows_text lines ++ rows_line client count) told (sym (length-map rows span_of) ∙ sym (ap length held.describes.layout))
 
--- what SHOW PARTS says of the table of a name
-pub parts_events-held : (client : ℕ) (name text : List ℕ) (store : Store) (number : ℕ) (table : Table) (files : FileId → FileState) (history : History) → IsWithin store → Holds store files history
-    → IsNamed store.schema.tables name number → table ≡ slice_index_or store.tables.items (number - 1) table
-    → text ≡ rows_text (map row_told table.layout.items) ++ rows_line client (length table.layout.items)
-    → parts_events client (table_of (tables_of history.schema) name) history ≡ Replied text [] false ∷ []
-parts_events-held client name text store number table files history within held named is text_is =
-    let def = named.def in
-    let found : table_of (tables_of history.schema) name ≡ Ok (number, def) = ap (λ (tables : List TableDef). table_of tables name) (sym held.schema) ∙ named.is in
-    let book = shown_book store number def table named.first named.stands is files history held in
-    let key = held_key number def table (shown_held store number def table named.first named.stands is within).1 in
-    let said : text ≡ parts_text client def.key (history.books number) =
-    text_is ∙ parts_text-held client table files (history.books number) book ∙ ap (λ (k : List ℕ). parts_text client k (history.books number)) key in
-    ap (λ (t : Result (ℕ × TableDef) Refusal). parts_events client t history) found ∙ ap (λ (l : List ℕ). Replied l [] false ∷ []) (sym said)
+-- so what a store holds of a table's parts tells those of the moment at which it is
+parts_at : (client table : ℕ) (def : TableDef) (store : Store) (outside : Outside) (before : List ℕ) (m : Moment) → IsWithin store → IsTable store table → slice_get store.schema.tables (table - 1) ≡ Some def
+    → IsAt store outside before m → told_text client (state_of store table).layout ≡ parts_text client (form_of def) (book_of m.history table)
+parts_at client table def store outside before m within is stands at =
+    let held = held_at store table within is in
+    let book = book_of m.history table in
+    ap (λ (s : State). told_text client s.layout) (its_state store table held.0 held.1)
+    ∙ parts_text-held client held.0 outside.files book (its_book store table held.0 held.1 outside.files (map catalog_payload m.history.schema) (book_of m.history) at.holds)
+    ∙ ap (λ (form : TableForm). parts_text client form book) (its_form store table held.0 held.1 def stands)
+
+other_task : (table other : ℕ) (def told : TableDef) → ◌≡◌ {A = Result Task Refusal} (Ok (TellParts table def)) (Ok (TellRows other told)) → ⊥
+other_task table other def told same = absurd (cc same)
+
+-- the parts of the table of a name are told
+pub parts_answers : (tells : Type 0) (client : ℕ) (name text : List ℕ) (parts : List PartRow) (number : ℕ) (result : Result Bool RunFault) (store : Store) (old new : Outside) → IsUsable tells store old
+    → IsNamed store.schema.tables name number → text ≡ told_text client parts → parts ≡ (state_of store number).layout → Replies tells text false result old new → Answers tells client (parts_wish name) result store store old new
+parts_answers tells client name text parts number result store old new usable named text_is parts_are replies =
+    let is : IsTable store number = record { first = named.first; last = named.last } in
+    let asked : parts_wish name store.schema.tables (entries_held store) ≡ Ok (TellParts number named.def) = ap (λ (found : Result (ℕ × TableDef) Refusal). and_then found (λ f. Ok (TellParts f.0 f.1))) named.is in
+    replied_answers tells client (parts_wish name) (Ok (TellParts number named.def)) text false result store store old new usable (holds_itself store usable.within) (λ entries agree. asked) (λ kept. refl) refl
+    (λ tell before m at. ap (λ (l : List ℕ). Replied l [] false ∷ []) (sym (text_is ∙ ap (told_text client) parts_are ∙ parts_at client number named.def store old before m usable.within is named.stands at)))
+    (λ tell damage meets. other_task number meets.table named.def meets.def (sym asked ∙ meets.asks)) replies
+
+-- the rows of a table in normal form are shown in the order of their values
+shown_text-rows : (client : ℕ) (form : TableForm) (book : Book) (rows : List (List Value)) → rows ≡ normal_rows form (rows_in book)
+    → rows_text (normal_form [] rows) ++ rows_line client (length (normal_form [] rows)) ≡ shown_text client form book
+unfolding answer_of
+shown_text-rows client form book rows same = ap (λ (l : List (List Value)). rows_text (normal_form [] l) ++ rows_line client (length (normal_form [] l))) same
+
+-- all rows of a table are asked for
+abbrev pub whole_table : ℕ → TableDef → Wish
+whole_table number def tables entries = Ok (TellRows number def)
+
+one_number : (a b : ℕ) (d e : TableDef) → ◌≡◌ {A = Result Task Refusal} (Ok (TellRows a d)) (Ok (TellRows b e)) → a ≡ b
+one_number a b d e same = cc
+
+one_definition : (a b : ℕ) (d e : TableDef) → ◌≡◌ {A = Result Task Refusal} (Ok (TellRows a d)) (Ok (TellRows b e)) → d ≡ e
+one_definition a b d e same = cc
+
+-- calls that change nothing, and then a reply
+module _ (tells failed : Type 0) (text : List ℕ) (mark : Bool) (result : Result Bool RunFault) (old mid new : Outside) (reads : OnlyReads tells failed old mid) (works : failed → ⊥) where
+  disk_same : mid.disk_faults ≡ old.disk_faults
+  disk_same = reads.counts.same works
+
+  counts_after : CountsRun result mid new → CountsRun result old new
+  counts_after counts = record {
+    disk_keeps = omega (arith, counts.disk_keeps, disk_same);
+    say_keeps = omega (arith, counts.say_keeps, reads.counts.other);
+    disk = λ err. subst (λ (n : ℕ). HasRisen n new.disk_faults) disk_same (counts.disk err);
+    say = λ err. subst (λ (n : ℕ). HasRisen n new.say_faults) reads.counts.other (counts.say err);
+    disk_stays = λ other. counts.disk_stays other ∙ disk_same;
+    say_stays = λ other. counts.say_stays other ∙ reads.counts.other;
+  }
+
+  pub reads_then_replies : Replies tells text mark result mid new → Replies tells text mark result old new
+  reads_then_replies replies = record {
+    answer = replies.answer;
+    said = λ tell. on_ok_weaker result (λ added. added ∙ ap (λ (l : List ℕ). l ++ text) (reads.said tell)) (replies.said tell);
+    files = λ tell f. replies.files tell f ∙ reads.files tell f;
+    during = λ tell.
+        goes_on old mid new (IsLeftSaying old.files old.said text) (IsLeftSaying mid.files mid.said text)
+        (weakened old mid (IsLeft old.files old.said) (IsLeftSaying old.files old.said text) (reads.during tell) (λ image said left. (left.0, nothing_more text old.said said left.1)))
+        (replies.during tell)
+        (λ image said left. (kept_image old.files mid.files image (reads.files tell) left.0, subst (λ (s : List ℕ). IsFrontOf text s said) (reads.said tell) left.1));
+    undamaged = replies.undamaged;
+    counts = counts_after replies.counts;
+  }
+
+-- all rows of the table of a number are asked for
+module _ (tells failed : Type 0) (client number : ℕ) (def : TableDef) (store : Store) (old mid : Outside) (usable : IsUsable tells store old) (reads : OnlyReads tells failed old mid) where
+  -- a damage that is met is of its parts
+  damage_there : (damage : Damage) → MeetsDamage (whole_table number def) store (bytes_in old) damage → IsPartDamage number (form_of def) (state_of store number).layout (bytes_in old) damage
+  damage_there damage meets =
+      let table : meets.table ≡ number = sym (one_number number meets.table def meets.def meets.asks) in
+      let same : meets.def ≡ def = sym (one_definition number meets.table def meets.def meets.asks) in
+      subst (λ (n : ℕ). IsPartDamage n (form_of def) (state_of store n).layout (bytes_in old) damage) table
+      (subst (λ (d : TableDef). IsPartDamage meets.table (form_of d) (state_of store meets.table).layout (bytes_in old) damage) same meets.is)
+
+  -- they are told
+  pub rows_answers : (text : List ℕ) (rows : List (List Value)) (result : Result Bool RunFault) (new : Outside) → (failed → ⊥)
+      → (tells → (payloads : List (List ℕ)) (books : ℕ → Book) → HoldsBooks store old.files payloads books → rows ≡ normal_rows (form_of def) (rows_in (books number)))
+      → (tells → ArePartsWhole number (form_of def) (state_of store number).layout (bytes_in old))
+      → text ≡ rows_text (normal_form [] rows) ++ rows_line client (length (normal_form [] rows)) → Replies tells text false result mid new → Answers tells client (whole_table number def) result store store old new
+  rows_answers text rows result new works read whole text_is replies =
+      replied_answers tells client (whole_table number def) (Ok (TellRows number def)) text false result store store old new usable (holds_itself store usable.within) (λ entries agree. refl) (λ kept. refl) refl
+      (λ tell before m at.
+      ap (λ (l : List ℕ). Replied l [] false ∷ [])
+      (sym (text_is ∙ shown_text-rows client (form_of def) (book_of m.history number) rows (read tell (map catalog_payload m.history.schema) (book_of m.history) at.holds))))
+      (λ tell damage meets. part_damage_excludes number (form_of def) (state_of store number).layout (bytes_in old) damage (damage_there damage meets) (whole tell))
+      (reads_then_replies tells failed text false result old mid new reads works replies)
+
+  -- or there is no memory to tell them
+  pub untold_answers : (failed → ⊥) → Answers tells client (whole_table number def) (Err NoMemory) store store old mid
+  untold_answers works =
+      failed_answers tells client (whole_table number def) store store old mid usable.within reads.during NoMemory (λ damage same. absurd (cc same))
+      (counts_read NoMemory failed old mid reads.counts (λ same. absurd (cc same)) (λ f. absurd (works f)) (λ same. absurd (cc same)))
+
+  -- or they are not read
+  pub unread_answers : (fault : TableFault) → (fault ≡ table_fault.Failed → failed) → (failed → fault ≡ table_fault.Failed)
+      → (tells → (damage : Damage) → fault ≡ table_fault.Damaged damage → IsPartDamage number (form_of def) (state_of store number).layout (bytes_in old) damage)
+      → Answers tells client (whole_table number def) (Err (table_fault_of fault)) store store old mid
+  unread_answers table_fault.Failed to from damaged =
+      failed_answers tells client (whole_table number def) store store old mid usable.within reads.during Disk (λ damage same. absurd (cc same))
+      (counts_read Disk failed old mid reads.counts (λ same. to refl) (λ f. refl) (λ same. absurd (cc same)))
+  unread_answers (table_fault.Damaged damage) to from damaged =
+      damaged_answers tells client (whole_table number def) store store old mid usable.within reads.during damage
+      (λ tell. record {
+        meets = record { table = number; def = def; asks = refl; is = damaged tell damage refl };
+        same = refl;
+        files = reads.files tell;
+        said = reads.said tell;
+      })
+      (λ tell other meets. part_damage_unique number (form_of def) (state_of store number).layout (bytes_in old) damage other (damaged tell damage refl) (damage_there other meets))
+      (counts_read (Damaged damage) failed old mid reads.counts (λ same. absurd (cc same)) (λ f. absurd (cc (from f))) (λ same. absurd (cc same)))
+  unread_answers table_fault.NoMemory to from damaged =
+      failed_answers tells client (whole_table number def) store store old mid usable.within reads.during NoMemory (λ damage same. absurd (cc same))
+      (counts_read NoMemory failed old mid reads.counts (λ same. absurd (cc same)) (λ f. absurd (cc (from f))) (λ same. absurd (cc same)))

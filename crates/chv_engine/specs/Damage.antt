@@ -1,104 +1,97 @@
--- How a store is damaged: docs/FORMATS.md, "Damage".
-use Rattle.std.specs.Prelude.{ℕ, ◌≡◌, ◌⊎◌, ◌+◌, ◌<◌, List, [], ◌∷◌, map, true, Option, None, Some, Ok, slice_get}
-use Rattle.chv_site.specs.declared.file_id.FileId.{FileId}
-use Rattle.chv_ast.specs.declared.statement.Select.{Select}
-use Rattle.chv_ast.specs.declared.statement.Statement.{Statement}
-use Rattle.chv_ast.specs.declared.statement.Statement.TheVariants as statement
-use Rattle.chv_catalog.specs.Schemas.{kinds_of}
+-- How damage is told.
+use Rattle.std.specs.Prelude.{ℕ, zero, suc, ◌≡◌, ◌⊎◌, ◌-◌, ◌+◌, ◌<◌, ◌≤◌, List, [], ◌∷◌, length, Some, Ok, Option, None, slice_get}
 use Rattle.chv_catalog.specs.declared.table_def.TableDef.{TableDef}
-use Rattle.chv_commit.specs.Replays.{AreCommits}
+use Rattle.chv_commit.specs.Replays.{State}
 use Rattle.chv_commit.specs.declared.part_row.PartRow.{PartRow}
-use Rattle.chv_gate.specs.GateLog.{HasFrames}
-use Rattle.chv_gate.specs.Reading.{IsDamagedAt}
+use Rattle.chv_define.specs.Accepted.{Accepted, tables_of}
+use Rattle.chv_history.specs.Kept.{Kept, kept_answer}
+use Rattle.chv_history.specs.Script.{Request}
+use Rattle.chv_history.specs.Tasks.{TellRows}
+use Rattle.chv_part.specs.Forms.{form_of}
 use Rattle.chv_part.specs.declared.damage.Damage.{Damage}
-use Rattle.chv_part.specs.declared.damage.Damage.TheVariants.{Catalog}
-use Rattle.chv_plan.specs.Plans.{table_of}
-use Rattle.chv_table.specs.Damage.{IsLogDamage, IsPartDamage}
+use Rattle.chv_part.specs.declared.damage.Damage.TheVariants.{Catalog, Log, PartHash, PartShape}
+use Rattle.chv_site.specs.FileIds.{catalog_log, table_log}
+use Rattle.chv_site.specs.Files.{FileState}
+use Rattle.chv_site.specs.Images.{Image}
+use Rattle.chv_site.specs.declared.file_id.FileId.{FileId}
+use Rattle.chv_store.specs.Damage.{IsCatalogDamage, IsTableDamage, HasSchema, HasCommits}
+use Rattle.chv_table.specs.Damage.{IsPartDamage}
 use Rattle.chv_engine.specs.DamageLines.{damage_line}
-use Rattle.chv_engine.specs.Forms.{is_whole_table}
-use Rattle.chv_engine.specs.Histories.{Accepted, tables_of, IsSchema, AreTexts, catalog_payload}
-use Rattle.chv_engine.specs.Script.{Request}
 
--- the bytes of each file
-abbrev pub Files : Type 0
-Files = FileId → List ℕ
+-- the name of a table, where it stands
+abbrev pub name_in : Option TableDef → List ℕ
+name_in None = []
+name_in (Some def) = def.name
 
--- the catalog's log is damaged, and this line tells it
-pub record IsCatalogDamaged (files : Files) (line : List ℕ) : Type 0 where
-  pub at : ℕ
-  pub damaged : IsDamagedAt AreTexts at (files (record { table = 0; part = 0 }))
-  pub told : line ≡ damage_line (Catalog at) []
+-- the name of the table of a number, counted from 1, where it stands
+abbrev pub name_at : List TableDef → ℕ → List ℕ
+name_at tables zero = []
+name_at tables (suc place) = name_in (slice_get tables place)
 
--- the catalog's log has the texts of this schema
-pub record HasSchema (files : Files) (schema : List Accepted) : Type 0 where
-  pub lawful : IsSchema schema
-  pub frames : HasFrames (map catalog_payload schema) (files (record { table = 0; part = 0 }))
+-- the name that goes with a damage: that of its table
+abbrev pub name_of : List TableDef → Damage → List ℕ
+name_of tables (Catalog at) = []
+name_of tables (Log table at) = name_at tables table
+name_of tables (PartHash table part kept found) = name_at tables table
+name_of tables (PartShape table part) = name_at tables table
 
--- a table's log is not damaged: its commits fit, and give this layout; the table's window keeps so many ids
-pub record HasCommits (files : Files) (table window : ℕ) (layout : List PartRow) : Type 0 where
-  pub payloads : List (List ℕ)
-  pub right : AreCommits window payloads
-  pub log : HasFrames payloads (files (record { table = table; part = 0 }))
-  pub layout_is : layout ≡ right.state.layout
-
--- the log of a table is not damaged
-abbrev pub IsLogWhole : Files → ℕ → ℕ → Type 0
-IsLogWhole files table window = (layout : List PartRow) × HasCommits files table window layout
-
--- of the logs of the tables in the catalog, this damage is in the first that is damaged, that of a table of this name
-pub record IsFirstLogDamage (files : Files) (damage : Damage) (name : List ℕ) : Type 0 where
-  pub schema : List Accepted
-  pub has : HasSchema files schema
-  pub place : ℕ
-  pub accepted : Accepted
-  pub stands : slice_get schema place ≡ Some accepted
-  pub earlier : (p : ℕ) (before : Accepted) → p < place → slice_get schema p ≡ Some before → IsLogWhole files (p + 1) before.def.window
-  pub is : IsLogDamage (place + 1) accepted.def.window (files (record { table = place + 1; part = 0 })) damage
-  pub named : name ≡ accepted.def.name
-
--- the log of a table is damaged, and this line tells the first
-pub record IsTableDamaged (files : Files) (line : List ℕ) : Type 0 where
-  pub damage : Damage
-  pub name : List ℕ
-  pub is : IsFirstLogDamage files damage name
-  pub told : line ≡ damage_line damage name
+-- the line that tells a damage beside these tables
+abbrev pub line_of : List TableDef → Damage → List ℕ
+line_of tables damage = damage_line damage (name_of tables damage)
 
 -- a log is damaged that is read as the store is opened, and this line tells the first
-abbrev pub IsOpeningDamaged : Files → List ℕ → Type 0
-IsOpeningDamaged files line = IsCatalogDamaged files line ⊎ IsTableDamaged files line
+pub record IsOpeningDamaged (files : Image) (line : List ℕ) : Type 0 where
+  pub tables : List TableDef
+  pub damage : Damage
+  pub is : IsCatalogDamage (files catalog_log) damage ⊎ IsTableDamage files tables damage
+  pub told : line ≡ line_of tables damage
 
--- the statement of the first request, where there is one
-abbrev pub first_statement : List Request → Option Statement
-first_statement [] = None
-first_statement (request ∷ requests) = request.statement
+-- the files of each table that the catalog has say what is live of it; this is said of the numbers that it has not
+abbrev pub HasNoStrays : (FileId → FileState) → Type 0
+HasNoStrays files =
+    (schema : List Accepted) (table : ℕ) → HasSchema (λ f. (files f).bytes) schema → length (tables_of schema) < table → (files (table_log table)).most ≤ 1
 
--- a statement shows all rows of the table of this number and this definition
-pub record Shows (asked : Option Statement) (tables : List TableDef) (table : ℕ) (def : TableDef) : Type 0 where
-  pub query : Select
-  pub is : asked ≡ Some (statement.Query query)
-  pub whole : is_whole_table query ≡ true
-  pub named : table_of tables query.table ≡ Ok (table, def)
-
--- no log is damaged, the first statement shows all rows of a table, and this line tells the first of its parts that is
--- damaged
-pub record MeetsDamage (files : Files) (requests : List Request) (line : List ℕ) : Type 0 where
+-- these are the live parts of a table that the catalog has, as its log says
+pub record AreLive (files : Image) (tables : List TableDef) (table : ℕ) (def : TableDef) (layout : List PartRow) : Type 0 where
   pub schema : List Accepted
   pub has : HasSchema files schema
-  pub logs : (p : ℕ) (accepted : Accepted) → slice_get schema p ≡ Some accepted → IsLogWhole files (p + 1) accepted.def.window
-  pub table : ℕ
-  pub def : TableDef
-  pub shows : Shows (first_statement requests) (tables_of schema) table def
-  pub layout : List PartRow
-  pub commits : HasCommits files table def.window layout
-  pub damage : Damage
-  pub is : IsPartDamage table (kinds_of def) layout files damage
-  pub told : line ≡ damage_line damage def.name
+  pub tables_are : tables ≡ tables_of schema
+  pub state : State
+  pub commits : HasCommits files table def.window state
+  pub layout_is : layout ≡ state.layout
 
--- of some parts of a table this one is the first that is damaged, and this line tells it
-pub record IsPartDamaged (files : Files) (line : List ℕ) : Type 0 where
+-- of some parts of a table this one is the first that is damaged, and this line tells it; where files are sound as a run
+-- begins, these are the table's live parts
+pub record IsPartDamaged (sound : Type 0) (files : Image) (line : List ℕ) : Type 0 where
+  pub tables : List TableDef
   pub table : ℕ
   pub def : TableDef
+  pub stands : slice_get tables (table - 1) ≡ Some def
   pub layout : List PartRow
   pub damage : Damage
-  pub is : IsPartDamage table (kinds_of def) layout files damage
-  pub told : line ≡ damage_line damage def.name
+  pub is : IsPartDamage table (form_of def) layout files damage
+  pub live : sound → AreLive files tables table def layout
+  pub told : line ≡ line_of tables damage
+
+-- what the logs of a store say of its tables, before it is opened
+pub record HasKept (files : Image) (kept : Kept) : Type 0 where
+  pub schema : List Accepted
+  pub has : HasSchema files schema
+  pub tables : kept.tables ≡ tables_of schema
+  pub states : (place : ℕ) (def : TableDef) → slice_get kept.tables place ≡ Some def → HasCommits files (place + 1) def.window (kept.states (place + 1))
+
+-- no log is damaged, the first request asks for all rows of a table, and this line tells the first of its parts that is damaged
+pub record MeetsPart (files : Image) (request : Request) (line : List ℕ) : Type 0 where
+  pub kept : Kept
+  pub has : HasKept files kept
+  pub table : ℕ
+  pub def : TableDef
+  pub asks : kept_answer request kept ≡ Ok (TellRows table def)
+  pub damage : Damage
+  pub is : IsPartDamage table (form_of def) (kept.states table).layout files damage
+  pub told : line ≡ line_of kept.tables damage
+
+-- the first of these requests meets a part that is damaged, and this line tells it
+abbrev pub FirstMeets : Image → List Request → List ℕ → Type 0
+FirstMeets files [] line = ⊥
+FirstMeets files (request ∷ requests) line = MeetsPart files request line

@@ -1,10 +1,11 @@
 // Why a run was ended.
 ghost use Rattle.std.specs.Prelude.{◌≡◌};
-ghost use Rattle.chv_engine.specs.Faults.{run_fault};
+ghost use Rattle.chv_engine.specs.Faults.{put_fault_of, table_fault_of};
 ghost use Rattle.chv_engine.specs.declared.fault.RunFault.TheVariants.{Disk, NoMemory};
 
+use chv_part::Damage;
 use chv_site::Failed;
-use chv_table::PutFault;
+use chv_table::{PutFault, TableFault};
 use std::alloc::AllocError;
 
 /// Why a run ended before its last statement was answered.
@@ -14,8 +15,8 @@ pub enum RunFault {
     Disk,
     /// A say failed.
     Say,
-    /// A file that was read is damaged. The line that tells it was said.
-    Damaged,
+    /// A file that was read is damaged.
+    Damaged(Damage),
     /// There was no memory.
     NoMemory,
 }
@@ -37,12 +38,24 @@ impl From<Failed> for RunFault {
 }
 
 impl From<PutFault> for RunFault {
-    ghost from_gives = { λ fault e. e ≡ run_fault fault };
+    ghost from_gives = { λ fault e. e ≡ put_fault_of fault };
 
     fn from(fault: PutFault) -> Self {
         match fault {
             PutFault::Failed => RunFault::Disk,
             PutFault::NoMemory => RunFault::NoMemory,
+        }
+    }
+}
+
+impl From<TableFault> for RunFault {
+    ghost from_gives = { λ fault e. e ≡ table_fault_of fault };
+
+    fn from(fault: TableFault) -> Self {
+        match fault {
+            TableFault::Failed => RunFault::Disk,
+            TableFault::Damaged(damage) => RunFault::Damaged(damage),
+            TableFault::NoMemory => RunFault::NoMemory,
         }
     }
 }

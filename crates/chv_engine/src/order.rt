@@ -1,7 +1,7 @@
 // The order in which the pieces of a script are answered: client by client, each in the order of the script.
 ghost use Rattle.std.specs.Prelude.{◌≡◌, ◌<◌, ◌≤◌, ◌==◌, ◌∷◌, [], length, drop, MatchOption, IfSome};
 ghost use Rattle.std.specs.List.{position, Contains};
-ghost use Rattle.chv_engine.specs.Script.{of_client, left_at};
+ghost use Rattle.chv_history.specs.Script.{of_client, left_at};
 
 use chv_lex::Piece;
 

@@ -1,7 +1,6 @@
 // How a script is pulled.
-ghost use Rattle.std.specs.Prelude.{◌≡◌, ◌≤◌, ◌<◌, ◌^◌, [], length, IfOk, IfErr};
-ghost use Rattle.chv_engine.specs.Pulls.{IsPulled, PullErr};
-ghost use Rattle.chv_site.specs.Faults.{IsCounted};
+ghost use Rattle.std.specs.Prelude.{◌≡◌, ◌≤◌, [], length, IfOk, IfErr};
+ghost use Rattle.chv_engine.specs.Pulls.{PulledUpTo, CountsPulls};
 
 use chv_site::{Failed, Source};
 use std::alloc::{AllocError, Global};
@@ -48,9 +47,9 @@ impl From<Failed> for PullFault {
 /// Pulls a source to its end: all its bytes, where they are no more than [`MAX_SCRIPT`].
 pub fn pull_script<S: Source>(alloc: Global, source: &mut S) -> Result<Vec<u8>, PullFault>
     ensures script { S.tells → IfOk result (λ script. (script.items ≡ S.left source.old) × (S.left source.new ≡ [])) }
-    ensures fits { IfOk result (λ script. length script.items ≤ 2 ^ 26) }
-    ensures err { IfErr result (λ e. PullErr S.tells (S.left source.old) (S.left source.new) (S.faults source.old) (S.faults source.new) e) }
-    ensures faults { S.faults source.old ≤ S.faults source.new }
+    ensures fits { IfOk result (λ script. length script.items ≤ MAX_SCRIPT) }
+    ensures err { S.tells → IfErr result (PulledUpTo (S.left source.old) (S.left source.new)) }
+    ensures counts { CountsPulls result (S.faults source.old) (S.faults source.new) }
 {
     let mut script = Vec::new(alloc);
     let mut chunk = [0; CHUNK];

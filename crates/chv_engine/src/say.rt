@@ -1,15 +1,14 @@
 // What is said to clients.
-ghost use Rattle.std.specs.Prelude.{◌≡◌, ◌++◌, true, IfOk, OnOk, IsErr, IsErrOf};
-ghost use Rattle.chv_site.specs.During.{During};
-ghost use Rattle.chv_site.specs.Files.{KeepsFiles};
-ghost use Rattle.chv_site.specs.Images.{IsLeftSaying};
+ghost use Rattle.std.specs.Prelude.{◌≡◌, true};
 ghost use Rattle.chv_text.specs.Replies.{refused_line};
-ghost use Rattle.chv_engine.specs.DamageLines.{damage_line};
-ghost use Rattle.chv_engine.specs.Faults.{IsCaused};
+ghost use Rattle.chv_engine.specs.Answers.{Replies};
+ghost use Rattle.chv_engine.specs.Damage.{line_of, name_of, name_at};
+ghost use Rattle.chv_engine.specs.Telling.{TellsFault};
 
 use crate::damage::damage_line;
 use crate::fault::RunFault;
 use chv_ast::Refusal;
+use chv_catalog::Schema;
 use chv_part::Damage;
 use chv_site::Site;
 use chv_text::line_refused;
@@ -17,12 +16,7 @@ use std::alloc::Global;
 
 /// Says a reply; `refuses` tells whether it refuses its statement, and is answered.
 pub fn reply<W: Site>(site: &mut W, text: &[u8], refuses: bool) -> Result<bool, RunFault>
-    ensures said { W.tells → OnOk result (W.said site.new ≡ W.said site.old ++ text.now) }
-    ensures refuses { IfOk result (λ answer. answer ≡ refuses) }
-    ensures undamaged { ¬ IsErrOf result RunFault.Damaged }
-    ensures files { W.tells → KeepsFiles (W.state site.old) (W.state site.new) }
-    ensures during { W.tells → During W.moment W.left_since site.old site.new (IsLeftSaying (W.state site.old) (W.said site.old) text.now) }
-    ensures faults { IsCaused (W.disk_faults site.old) (W.disk_faults site.new) (W.say_faults site.old) (W.say_faults site.new) result }
+    ensures { Replies W.tells text.now refuses result (W.outside site.old) (W.outside site.new) }
 {
     match site.say(text) {
         Ok(()) => Ok(refuses),
@@ -32,29 +26,55 @@ pub fn reply<W: Site>(site: &mut W, text: &[u8], refuses: bool) -> Result<bool, 
 
 /// Says a refusal to a client, and answers true.
 pub fn refuse<W: Site>(site: &mut W, client: u8, refusal: Refusal) -> Result<bool, RunFault>
-    ensures said { W.tells → OnOk result (W.said site.new ≡ W.said site.old ++ refused_line client refusal) }
-    ensures refuses { IfOk result (λ answer. answer ≡ true) }
-    ensures undamaged { ¬ IsErrOf result RunFault.Damaged }
-    ensures files { W.tells → KeepsFiles (W.state site.old) (W.state site.new) }
-    ensures during { W.tells → During W.moment W.left_since site.old site.new (IsLeftSaying (W.state site.old) (W.said site.old) (refused_line client refusal)) }
-    ensures faults { IsCaused (W.disk_faults site.old) (W.disk_faults site.new) (W.say_faults site.old) (W.say_faults site.new) result }
+    ensures { Replies W.tells (refused_line client refusal) true result (W.outside site.old) (W.outside site.new) }
 {
     reply(site, line_refused(client, refusal).as_slice(), true)
 }
 
-/// Says the line that tells a damage; the name is that of the damaged table. It answers the fault that ends the run.
-pub fn tell_damage<W: Site>(
+/// Where a fault is damage, says the line that tells it beside these tables. It answers the fault that ends the run.
+pub fn tell<W: Site>(alloc: Global, site: &mut W, schema: &Schema, fault: RunFault) -> RunFault
+    ensures { TellsFault W.tells (site.new ≡ site.old) schema.now.tables fault result (W.outside site.old) (W.outside site.new) }
+{
+    match fault {
+        RunFault::Damaged(damage) => match say_damage(alloc, site, schema, damage) {
+            Ok(_) => fault,
+            Err(other) => other,
+        },
+        _ => fault,
+    }
+}
+
+// Says the line that tells a damage beside these tables.
+fn say_damage<W: Site>(
     alloc: Global,
     site: &mut W,
+    schema: &Schema,
     damage: Damage,
-    name: &[u8],
 ) -> Result<bool, RunFault>
-    ensures told { W.tells → IsErrOf result RunFault.Damaged → W.said site.new ≡ W.said site.old ++ damage_line damage name.now }
-    ensures ended { IsErr result }
-    ensures files { W.tells → KeepsFiles (W.state site.old) (W.state site.new) }
-    ensures faults { IsCaused (W.disk_faults site.old) (W.disk_faults site.new) (W.say_faults site.old) (W.say_faults site.new) result }
+    ensures { Replies W.tells (line_of schema.now.tables damage) true result (W.outside site.old) (W.outside site.new) }
 {
-    let line = damage_line(alloc, damage, name)?;
-    reply(site, &line, false)?;
-    Err(RunFault::Damaged)
+    let line = damage_line(alloc, damage, name_of(schema, damage))?;
+    reply(site, &line, true)
+}
+
+// The name that goes with a damage: that of its table.
+fn name_of(schema: &Schema, damage: Damage) -> &[u8]
+    ensures { result.now ≡ name_of schema.now.tables damage }
+{
+    match damage {
+        Damage::Catalog { .. } => &[],
+        Damage::Log { table, .. }
+        | Damage::PartHash { table, .. }
+        | Damage::PartShape { table, .. } => name_at(schema, table),
+    }
+}
+
+// The name of the table of a number, where it stands.
+fn name_at(schema: &Schema, table: u32) -> &[u8]
+    ensures { result.now ≡ name_at schema.now.tables table }
+{
+    if table == 0 || table > schema.tables() {
+        return &[];
+    }
+    schema.table_def(table).name.as_slice()
 }

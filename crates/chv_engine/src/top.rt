@@ -1,14 +1,16 @@
 // The whole call.
-ghost use Rattle.std.specs.Prelude.{◌≡◌, ◌≢◌, ◌⊎◌, ◌<◌, ◌≤◌, ◌^◌, [], List, ℕ, length};
-ghost use Rattle.chv_site.specs.Faults.{HasRisen};
+ghost use Rattle.std.specs.Prelude.{◌≡◌, ◌≢◌, ◌⊎◌, ◌≤◌, List, ℕ, length};
+ghost use Rattle.chv_history.specs.Crashes.{IsLeftBy};
+ghost use Rattle.chv_history.specs.Events.{begins};
+ghost use Rattle.chv_history.specs.Histories.{History, Settles};
+ghost use Rattle.chv_history.specs.Kept.{Kept, refuses};
+ghost use Rattle.chv_history.specs.Runs.{run_events};
+ghost use Rattle.chv_history.specs.Script.{requests_of};
 ghost use Rattle.chv_site.specs.During.{During};
-ghost use Rattle.chv_engine.specs.Crashes.{IsLeftBy};
-ghost use Rattle.chv_engine.specs.Damage.{IsOpeningDamaged, MeetsDamage};
-ghost use Rattle.chv_engine.specs.Ends.{IfEnded, EndsWithoutFault, HasCause, SaysDamage, AnswersDamage, PulledAs, LeavesSite};
-ghost use Rattle.chv_engine.specs.Histories.{History, Settles};
-ghost use Rattle.chv_engine.specs.Runs.{begins, run_events};
-ghost use Rattle.chv_engine.specs.Script.{requests_of};
-ghost use Rattle.chv_engine.specs.Stores.{EndsAt};
+ghost use Rattle.chv_site.specs.Outside.{bytes_in};
+ghost use Rattle.chv_engine.specs.Damage.{HasKept, IsOpeningDamaged, FirstMeets};
+ghost use Rattle.chv_engine.specs.Ends.{IfEnded, EndsWithoutFault, IsCausedBy, MeetsNoFault, EndsAt, SaysDamage, AnswersDamage, PulledAs, LeavesSite};
+ghost use Rattle.chv_engine.specs.Pulls.{MAX_SCRIPT};
 ghost use Rattle.chv_engine.specs.Words.{run_words};
 
 use crate::fault::RunFault;
@@ -27,35 +29,31 @@ pub fn chviews<S: Source, W: Site>(
     source: &mut S,
     site: &mut W,
 ) -> Status
-    ensures bad_words { result ≡ Status.BadWords → words.now ≢ run_words }
-    ensures words { words.now ≢ run_words → (result ≡ Status.BadWords) ⊎ (result ≡ Status.NoMemory) }
-    ensures nothing_pulled { result ≡ Status.BadWords → source.new ≡ source.old }
+    ensures words { words.now ≢ run_words → ((result ≡ Status.BadWords) ⊎ (result ≡ Status.NoMemory)) × (source.new ≡ source.old) × (site.new ≡ site.old) }
+    ensures bad_words { result ≡ Status.BadWords → (words.now ≢ run_words) × (source.new ≡ source.old) }
+    // The script is pulled to its end, or beyond the bound by one pull at most, before the store is opened.
     ensures pulled { S.tells → PulledAs result (S.left source.old) (S.left source.new) }
     ensures untouched { LeavesSite result site.old site.new }
-    ensures cause { HasCause result (S.faults source.old) (S.faults source.new) (W.disk_faults site.old) (W.disk_faults site.new) (W.say_faults site.old) (W.say_faults site.new) }
+    // The first fault ends the run.
+    ensures cause { IsCausedBy result (S.faults source.old) (S.faults source.new) (W.outside site.old) (W.outside site.new) }
     // Without a fault the run comes to its end, or to damage.
-    ensures complete { words.now ≡ run_words → S.tells → length (S.left source.old) ≤ 2 ^ 26
-        → ¬ HasRisen (S.faults source.old) (S.faults source.new) → ¬ HasRisen (W.disk_faults site.old) (W.disk_faults site.new)
-        → ¬ HasRisen (W.say_faults site.old) (W.say_faults site.new) → EndsWithoutFault result }
-    // A run that comes to its end has read the whole script.
-    ensures whole { S.tells → IfEnded result (λ refused. S.left source.new ≡ []) }
-    // It has said the replies to all requests, and the files stand for the history behind its events.
-    ensures ended { S.tells → W.tells → (history : History) → Settles (W.state site.old) history
-        → IfEnded result (EndsAt (requests_of (S.left source.old)) history (W.state site.new) (W.said site.old) (W.said site.new)) }
+    ensures complete { words.now ≡ run_words → S.tells → length (S.left source.old) ≤ MAX_SCRIPT → MeetsNoFault (S.faults source.old) (S.faults source.new) (W.outside site.old) (W.outside site.new) → EndsWithoutFault result }
+    // A run that comes to its end has said the replies to all requests, and the files stand for the history behind its events.
+    ensures ended { S.tells → W.tells → (history : History) → Settles (W.outside site.old).files history
+        → IfEnded result (EndsAt (requests_of (S.left source.old)) history (W.outside site.old) (W.outside site.new)) }
+    // Whatever the files stand for, whether a statement is refused follows from the script and what the logs say.
+    ensures refused { S.tells → W.tells → IfEnded result (λ refused. (kept : Kept) → HasKept (bytes_in (W.outside site.old)) kept → refuses (requests_of (S.left source.old)) kept ≡ refused) }
     // At any moment since the call began, whatever a crash leaves: the files stand for the history behind some of the run's
     // events, and the text is the one behind them, or goes on by a front of what the next event says.
-    ensures during { S.tells → W.tells → (history : History) → Settles (W.state site.old) history → During W.moment W.left_since site.old site.new
-        (IsLeftBy (run_events (requests_of (S.left source.old)) (begins history)) (W.said site.old) (begins history)) }
+    ensures during { S.tells → W.tells → (history : History) → Settles (W.outside site.old).files history → During (W.outside site.old) (W.outside site.new)
+        (IsLeftBy (run_events (requests_of (S.left source.old)) (begins history)) (W.outside site.old).said (begins history)) }
     // Damage is told only where a file is damaged, by the last line that was said, and never where the files stand for a history.
-    ensures damaged { W.tells → result ≡ Status.Damaged
-        → SaysDamage (λ f. (W.state site.old f).bytes) (λ f. (W.state site.new f).bytes) (W.said site.new) }
-    ensures undamaged { W.tells → (history : History) → Settles (W.state site.old) history → result ≢ Status.Damaged }
+    ensures damaged { W.tells → result ≡ Status.Damaged → SaysDamage (W.outside site.old) (W.outside site.new) }
+    ensures undamaged { W.tells → (history : History) → Settles (W.outside site.old).files history → result ≢ Status.Damaged }
     // Without a fault it is always told of a log that is damaged as the store is opened, and of a part that the first statement meets.
-    ensures meets { words.now ≡ run_words → S.tells → W.tells → length (S.left source.old) ≤ 2 ^ 26
-        → ¬ HasRisen (S.faults source.old) (S.faults source.new) → ¬ HasRisen (W.disk_faults site.old) (W.disk_faults site.new)
-        → ¬ HasRisen (W.say_faults site.old) (W.say_faults site.new) → (line : List ℕ)
-        → IsOpeningDamaged (λ f. (W.state site.old f).bytes) line ⊎ MeetsDamage (λ f. (W.state site.old f).bytes) (requests_of (S.left source.old)) line
-        → AnswersDamage result (W.said site.old) (W.said site.new) line }
+    ensures meets { words.now ≡ run_words → S.tells → W.tells → length (S.left source.old) ≤ MAX_SCRIPT → MeetsNoFault (S.faults source.old) (S.faults source.new) (W.outside site.old) (W.outside site.new)
+        → (line : List ℕ) → IsOpeningDamaged (bytes_in (W.outside site.old)) line ⊎ FirstMeets (bytes_in (W.outside site.old)) (requests_of (S.left source.old)) line
+        → AnswersDamage result (W.outside site.old).said (W.outside site.new).said line }
 {
     match read_words(words) {
         Ok(Some(Command::Run)) => run(alloc, source, site),
@@ -64,27 +62,23 @@ pub fn chviews<S: Source, W: Site>(
     }
 }
 
+// Pulls the script, and runs it.
 fn run<S: Source, W: Site>(alloc: Global, source: &mut S, site: &mut W) -> Status
     ensures good_words { result ≢ Status.BadWords }
     ensures pulled { S.tells → PulledAs result (S.left source.old) (S.left source.new) }
     ensures untouched { LeavesSite result site.old site.new }
-    ensures cause { HasCause result (S.faults source.old) (S.faults source.new) (W.disk_faults site.old) (W.disk_faults site.new) (W.say_faults site.old) (W.say_faults site.new) }
-    ensures complete { S.tells → length (S.left source.old) ≤ 2 ^ 26
-        → ¬ HasRisen (S.faults source.old) (S.faults source.new) → ¬ HasRisen (W.disk_faults site.old) (W.disk_faults site.new)
-        → ¬ HasRisen (W.say_faults site.old) (W.say_faults site.new) → EndsWithoutFault result }
-    ensures whole { S.tells → IfEnded result (λ refused. S.left source.new ≡ []) }
-    ensures ended { S.tells → W.tells → (history : History) → Settles (W.state site.old) history
-        → IfEnded result (EndsAt (requests_of (S.left source.old)) history (W.state site.new) (W.said site.old) (W.said site.new)) }
-    ensures during { S.tells → W.tells → (history : History) → Settles (W.state site.old) history → During W.moment W.left_since site.old site.new
-        (IsLeftBy (run_events (requests_of (S.left source.old)) (begins history)) (W.said site.old) (begins history)) }
-    ensures damaged { W.tells → result ≡ Status.Damaged
-        → SaysDamage (λ f. (W.state site.old f).bytes) (λ f. (W.state site.new f).bytes) (W.said site.new) }
-    ensures undamaged { W.tells → (history : History) → Settles (W.state site.old) history → result ≢ Status.Damaged }
-    ensures meets { S.tells → W.tells → length (S.left source.old) ≤ 2 ^ 26
-        → ¬ HasRisen (S.faults source.old) (S.faults source.new) → ¬ HasRisen (W.disk_faults site.old) (W.disk_faults site.new)
-        → ¬ HasRisen (W.say_faults site.old) (W.say_faults site.new) → (line : List ℕ)
-        → IsOpeningDamaged (λ f. (W.state site.old f).bytes) line ⊎ MeetsDamage (λ f. (W.state site.old f).bytes) (requests_of (S.left source.old)) line
-        → AnswersDamage result (W.said site.old) (W.said site.new) line }
+    ensures cause { IsCausedBy result (S.faults source.old) (S.faults source.new) (W.outside site.old) (W.outside site.new) }
+    ensures complete { S.tells → length (S.left source.old) ≤ MAX_SCRIPT → MeetsNoFault (S.faults source.old) (S.faults source.new) (W.outside site.old) (W.outside site.new) → EndsWithoutFault result }
+    ensures ended { S.tells → W.tells → (history : History) → Settles (W.outside site.old).files history
+        → IfEnded result (EndsAt (requests_of (S.left source.old)) history (W.outside site.old) (W.outside site.new)) }
+    ensures refused { S.tells → W.tells → IfEnded result (λ refused. (kept : Kept) → HasKept (bytes_in (W.outside site.old)) kept → refuses (requests_of (S.left source.old)) kept ≡ refused) }
+    ensures during { S.tells → W.tells → (history : History) → Settles (W.outside site.old).files history → During (W.outside site.old) (W.outside site.new)
+        (IsLeftBy (run_events (requests_of (S.left source.old)) (begins history)) (W.outside site.old).said (begins history)) }
+    ensures damaged { W.tells → result ≡ Status.Damaged → SaysDamage (W.outside site.old) (W.outside site.new) }
+    ensures undamaged { W.tells → (history : History) → Settles (W.outside site.old).files history → result ≢ Status.Damaged }
+    ensures meets { S.tells → W.tells → length (S.left source.old) ≤ MAX_SCRIPT → MeetsNoFault (S.faults source.old) (S.faults source.new) (W.outside site.old) (W.outside site.new)
+        → (line : List ℕ) → IsOpeningDamaged (bytes_in (W.outside site.old)) line ⊎ FirstMeets (bytes_in (W.outside site.old)) (requests_of (S.left source.old)) line
+        → AnswersDamage result (W.outside site.old).said (W.outside site.new).said line }
 {
     match pull_script(alloc, source) {
         Ok(script) => match run_script(alloc, site, &script) {
@@ -92,7 +86,7 @@ fn run<S: Source, W: Site>(alloc: Global, source: &mut S, site: &mut W) -> Statu
             Ok(true) => Status::SomeRefused,
             Err(RunFault::Disk) => Status::DiskFault,
             Err(RunFault::Say) => Status::SayFault,
-            Err(RunFault::Damaged) => Status::Damaged,
+            Err(RunFault::Damaged(_)) => Status::Damaged,
             Err(RunFault::NoMemory) => Status::NoMemory,
         },
         Err(PullFault::Failed) => Status::SourceFault,

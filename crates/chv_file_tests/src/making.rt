@@ -2,7 +2,8 @@
 ghost use Rattle.std.specs.Prelude.{◌≡◌, true, IfOk, IfSome};
 ghost use Rattle.chv_catalog.specs.Schemas.{kinds_of};
 ghost use Rattle.chv_site.specs.MemSite.{files_of};
-ghost use Rattle.chv_table.specs.Tables.{AreColumns, IsPlaced, IsWithin};
+ghost use Rattle.chv_part.specs.Books.{AreColumns};
+ghost use Rattle.chv_table.specs.Tables.{IsPlaced, IsWithin};
 
 use chv_ast::Seq;
 use chv_catalog::TableDef;

@@ -1,7 +1,7 @@
 // Parts as they are written, and as they are read back, whole and damaged.
 ghost use Rattle.std.specs.Prelude.{◌<◌, ◌≤◌, IfOk};
 ghost use Rattle.chv_block.specs.Spellings.{AllAreOf};
-ghost use Rattle.chv_table.specs.Tables.{AreColumns};
+ghost use Rattle.chv_part.specs.Books.{AreColumns};
 
 use crate::making::{ONE_ROW, ONE_ROW_HASH};
 use chv_part::{PartFault, encode_part, read_part, write_part};

@@ -16,13 +16,13 @@ fn is_pulled(source: &mut MemSource) -> bool {
         && source.pull(&mut buf) == Ok(0)
 }
 
-// The pulls that fail are those of a copied list.
+// The second pull fails.
 fn is_pulled_to_its_end(alloc: Global) -> bool {
     let mut fails = Fails::new(alloc);
     let _ = fails.push(2);
-    match (b"abcde".to_vec(alloc), fails.copy()) {
-        (Ok(bytes), Ok(fails)) => is_pulled(&mut MemSource::new(bytes, fails)),
-        _ => false,
+    match b"abcde".to_vec(alloc) {
+        Ok(bytes) => is_pulled(&mut MemSource::new(bytes, fails)),
+        Err(_) => false,
     }
 }
 

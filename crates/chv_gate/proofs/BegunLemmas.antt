@@ -3,11 +3,12 @@ use Rattle.std.proofs.Common.{◌≡◌, ◌∙◌, ℕ, List, sym, subst}
 use Rattle.chv_site.specs.declared.file_id.FileId.{FileId}
 use Rattle.chv_site.specs.Files.{FileState, settled, KeepsOthers}
 use Rattle.chv_site.specs.Images.{Image, IsFileImage, IsLeft, HasLengths}
+use Rattle.chv_site.specs.Outside.{Outside, bytes_in}
 use Rattle.chv_site.specs.During.{During}
 use Rattle.chv_site.proofs.Images.{reads_image, settled_image}
 use Rattle.chv_site.proofs.Moments.{goes_on}
 use Rattle.chv_gate.specs.GateLog.{HasFrames, begun}
-use Rattle.chv_gate.specs.Crashes.{IsLeftWith, LeavesFrames}
+use Rattle.chv_gate.specs.Crashes.{IsLeftWith, Leaves, LeavesFrames}
 use Rattle.chv_gate.proofs.CrashLemmas.{others_kept}
 use Rattle.chv_gate.proofs.DamageLaws.{frames_begun}
 
@@ -22,10 +23,9 @@ begun_left f payloads old mid said image text leaves lengths begun_now others le
     )
 
 -- calls that change nothing, once a log is begun
-pub during_begun : {S : Type 0} (moment : S → ℕ) (left_since : S → ℕ → Image → List ℕ → Type 0) (state : S → FileId → FileState) (said : S → List ℕ) (f : FileId) (payloads : List (List ℕ)) (old mid new : S)
-    → LeavesFrames payloads (state old f) → HasLengths (state old f) → state mid f ≡ settled (begun (state old f).bytes) → KeepsOthers f (state old) (state mid) → said mid ≡ said old
-    → During moment left_since old mid (IsLeftWith f (HasFrames payloads) (state old) (said old)) → During moment left_since mid new (IsLeft (state mid) (said mid))
-    → During moment left_since old new (IsLeftWith f (HasFrames payloads) (state old) (said old))
-during_begun moment left_since state said f payloads old mid new leaves lengths begun_now others same first later =
-    goes_on moment left_since old mid new (IsLeftWith f (HasFrames payloads) (state old) (said old)) (IsLeft (state mid) (said mid)) first later
-    (λ image text left. begun_left f payloads (state old) (state mid) (said old) image text leaves lengths begun_now others (left.0, left.1 ∙ same))
+pub during_begun : (f : FileId) (payloads : List (List ℕ)) (old mid new : Outside) → LeavesFrames payloads (old.files f) → HasLengths (old.files f)
+    → mid.files f ≡ settled (begun (bytes_in old f)) → KeepsOthers f old.files mid.files → mid.said ≡ old.said
+    → Leaves f (HasFrames payloads) old mid → During mid new (IsLeft mid.files mid.said) → Leaves f (HasFrames payloads) old new
+during_begun f payloads old mid new leaves lengths begun_now others same first later =
+    goes_on old mid new (IsLeftWith f (HasFrames payloads) old.files old.said) (IsLeft mid.files mid.said) first later
+    (λ image text left. begun_left f payloads old.files mid.files old.said image text leaves lengths begun_now others (left.0, left.1 ∙ same))

@@ -49,7 +49,8 @@ put_left f at n old new said image text inside whole put others left = (
   left.1,
 )
 
-torn_short : (bytes : List ℕ) → is_torn bytes ≡ true → length bytes ≤ 1
+-- a torn log has one byte at most
+pub torn_short : (bytes : List ℕ) → is_torn bytes ≡ true → length bytes ≤ 1
 torn_short [] torn = omega arith
 torn_short (gate ∷ []) torn = omega arith
 torn_short (gate ∷ next ∷ behind) torn = absurd (false≢true torn)

@@ -3,6 +3,8 @@ use Rattle.std.specs.Prelude.{ℕ, ◌≡◌, ◌≢◌, ◌⊎◌, List, [], �
 use Rattle.chv_site.specs.declared.file_id.FileId.{FileId}
 use Rattle.chv_site.specs.Files.{FileState}
 use Rattle.chv_site.specs.Images.{Image, IsFileImage}
+use Rattle.chv_site.specs.Outside.{Outside}
+use Rattle.chv_site.specs.During.{During}
 use Rattle.chv_gate.specs.GateLog.{HasFrames}
 
 -- each other file is as a crash may leave it
@@ -20,3 +22,8 @@ LeavesFrames payloads state = (image : List ℕ) → IsFileImage state image →
 -- a file has these frames, with this one behind them or without
 abbrev pub HasFramesOrMore : List (List ℕ) → List ℕ → List ℕ → Type 0
 HasFramesOrMore payloads payload file = HasFrames payloads file ⊎ HasFrames (payloads ++ payload ∷ []) file
+
+-- whatever a crash from old to new leaves of this file has P, the other files are as one may have left them before, and the
+-- text is what was said
+abbrev pub Leaves : FileId → (List ℕ → Type 0) → Outside → Outside → Type 0
+Leaves f P old new = During old new (IsLeftWith f P old.files old.said)

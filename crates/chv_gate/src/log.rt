@@ -1,10 +1,9 @@
 // A log that is appended to.
-ghost use Rattle.std.specs.Prelude.{◌≡◌, ◌+◌, ◌^◌, ◌<◌, ◌++◌, [], ◌∷◌, List, ℕ, length, OnOk};
-ghost use Rattle.chv_site.specs.Faults.{IsCounted};
-ghost use Rattle.chv_site.specs.Files.{KeepsOthers};
-ghost use Rattle.chv_site.specs.During.{During};
+ghost use Rattle.std.specs.Prelude.{◌≡◌, ◌+◌, ◌^◌, ◌<◌, ◌++◌, [], ◌∷◌, List, ℕ, length, OnOk, IsErr};
+ghost use Rattle.chv_site.specs.Outside.{bytes_in};
+ghost use Rattle.chv_site.specs.Effects.{ChangesOnly};
 ghost use Rattle.chv_gate.specs.GateLog.{IsPayload, IsReady, frame_of};
-ghost use Rattle.chv_gate.specs.Crashes.{IsLeftWith, HasFramesOrMore};
+ghost use Rattle.chv_gate.specs.Crashes.{Leaves, HasFramesOrMore};
 
 use crate::framing::OPEN;
 use crate::writing::write_synced;
@@ -28,22 +27,19 @@ impl Log {
     /// Appends a frame: it goes behind the standing gate and is synced; then that gate is opened, and synced.
     /// After an `Err` the log is not used again.
     pub fn append<W: Site>(&mut self, site: &mut W, frame: &[u8]) -> Result<(), Failed>
-        requires placed { W.tells → self.old.gate < length (W.state site.old self.old.file).bytes }
+        requires placed { W.tells → self.old.gate < length (bytes_in (W.outside site.old) self.old.file) }
         requires room { self.old.gate + 1 + length frame.now < 2 ^ 64 }
         ensures appended { W.tells → OnOk result ((payloads : List (List ℕ)) (payload : List ℕ)
-            → IsReady self.old.gate payloads (W.state site.old self.old.file) → IsPayload payload → frame.now ≡ frame_of payload
-            → IsReady self.new.gate (payloads ++ payload ∷ []) (W.state site.new self.old.file)) }
+            → IsReady self.old.gate payloads ((W.outside site.old).files self.old.file) → IsPayload payload → frame.now ≡ frame_of payload
+            → IsReady self.new.gate (payloads ++ payload ∷ []) ((W.outside site.new).files self.old.file)) }
         // A crash at any moment of the call leaves the frames from before it, with the new one or without.
         ensures during { W.tells → (payloads : List (List ℕ)) (payload : List ℕ)
-            → IsReady self.old.gate payloads (W.state site.old self.old.file) → IsPayload payload → frame.now ≡ frame_of payload
-            → During W.moment W.left_since site.old site.new (IsLeftWith self.old.file (HasFramesOrMore payloads payload) (W.state site.old) (W.said site.old)) }
-        ensures placed { W.tells → OnOk result (self.new.gate < length (W.state site.new self.old.file).bytes) }
+            → IsReady self.old.gate payloads ((W.outside site.old).files self.old.file) → IsPayload payload → frame.now ≡ frame_of payload
+            → Leaves self.old.file (HasFramesOrMore payloads payload) (W.outside site.old) (W.outside site.new) }
+        ensures placed { W.tells → OnOk result (self.new.gate < length (bytes_in (W.outside site.new) self.old.file)) }
         ensures file { self.new.file ≡ self.old.file }
         ensures gate { OnOk result (self.new.gate ≡ self.old.gate + length frame.now) }
-        ensures others { W.tells → KeepsOthers self.old.file (W.state site.old) (W.state site.new) }
-        ensures said { W.tells → W.said site.new ≡ W.said site.old }
-        ensures failed { IsCounted (W.disk_faults site.old) (W.disk_faults site.new) result }
-        ensures other_faults { W.say_faults site.new ≡ W.say_faults site.old }
+        ensures keeps { ChangesOnly W.tells (IsErr result) self.old.file (W.outside site.old) (W.outside site.new) }
     {
         write_synced(site, self.file, self.gate + 1, frame)?;
         write_synced(site, self.file, self.gate, &[OPEN])?;

@@ -1,9 +1,7 @@
 // The frames of a log, one after the other.
 ghost use Rattle.std.specs.Prelude.{◌≡◌, ◌≤◌, ◌<◌, ◌+◌, ◌^◌, ℕ, length, IfOk, IfErr, IfSome, IsNone, IsErrOf};
-ghost use Rattle.chv_site.specs.Faults.{HasRisen};
-ghost use Rattle.chv_site.specs.Files.{KeepsFiles};
-ghost use Rattle.chv_site.specs.Images.{IsLeft};
-ghost use Rattle.chv_site.specs.During.{During};
+ghost use Rattle.chv_site.specs.Outside.{bytes_in};
+ghost use Rattle.chv_site.specs.Effects.{OnlyReads};
 ghost use Rattle.chv_gate.specs.Reading.{Reads, IsDamage, GoesOn, HasLength, IsAnnounced};
 
 use crate::GateFault;
@@ -28,15 +26,10 @@ pub fn step<W: Site>(
     f: FileId,
     gate: u64,
 ) -> Result<GateRead, GateFault>
-    ensures read { W.tells → IfOk result (λ read. Reads gate (W.state site.old f).bytes read) }
-    ensures damaged { W.tells → IfErr result (λ fault. IsDamage gate (W.state site.old f).bytes fault) }
+    ensures read { W.tells → IfOk result (λ read. Reads gate (bytes_in (W.outside site.old) f) read) }
+    ensures damaged { W.tells → IfErr result (λ fault. IsDamage gate (bytes_in (W.outside site.old) f) fault) }
     ensures forward { IfOk result (λ read. GoesOn gate read) }
-    ensures during { W.tells → During W.moment W.left_since site.old site.new (IsLeft (W.state site.old) (W.said site.old)) }
-    ensures files { W.tells → KeepsFiles (W.state site.old) (W.state site.new) }
-    ensures said { W.tells → W.said site.new ≡ W.said site.old }
-    ensures faults { W.disk_faults site.old ≤ W.disk_faults site.new }
-    ensures failed { IsErrOf result GateFault.Failed → HasRisen (W.disk_faults site.old) (W.disk_faults site.new) }
-    ensures other_faults { W.say_faults site.new ≡ W.say_faults site.old }
+    ensures keeps { OnlyReads W.tells (IsErrOf result GateFault.Failed) (W.outside site.old) (W.outside site.new) }
 {
     let file_size = site.size(f)?;
     if file_size <= 1 || file_size <= gate {
@@ -79,16 +72,11 @@ fn read_body<W: Site>(
 ) -> Result<GateRead, GateFault>
     requires sized { (1 ≤ size) × (size ≤ 2 ^ 30) }
     requires room { gate + 5 + size < 2 ^ 64 }
-    requires announced { W.tells → IsAnnounced gate size (W.state site.old f).bytes }
-    ensures read { W.tells → IfOk result (λ read. Reads gate (W.state site.old f).bytes read) }
-    ensures damaged { W.tells → IfErr result (λ fault. IsDamage gate (W.state site.old f).bytes fault) }
+    requires announced { W.tells → IsAnnounced gate size (bytes_in (W.outside site.old) f) }
+    ensures read { W.tells → IfOk result (λ read. Reads gate (bytes_in (W.outside site.old) f) read) }
+    ensures damaged { W.tells → IfErr result (λ fault. IsDamage gate (bytes_in (W.outside site.old) f) fault) }
     ensures forward { IfOk result (λ read. GoesOn gate read) }
-    ensures during { W.tells → During W.moment W.left_since site.old site.new (IsLeft (W.state site.old) (W.said site.old)) }
-    ensures files { W.tells → KeepsFiles (W.state site.old) (W.state site.new) }
-    ensures said { W.tells → W.said site.new ≡ W.said site.old }
-    ensures faults { W.disk_faults site.old ≤ W.disk_faults site.new }
-    ensures failed { IsErrOf result GateFault.Failed → HasRisen (W.disk_faults site.old) (W.disk_faults site.new) }
-    ensures other_faults { W.say_faults site.new ≡ W.say_faults site.old }
+    ensures keeps { OnlyReads W.tells (IsErrOf result GateFault.Failed) (W.outside site.old) (W.outside site.new) }
 {
     let mut payload = vec![in alloc; 0u8; size as usize]?;
     let count = site.fetch(f, gate + 5, &mut payload)?;

@@ -13,7 +13,9 @@ use Rattle.chv_merge.specs.NormalForms.{normal_form}
 use Rattle.chv_merge.proofs.NormalFormLemmas.{normal_form-IsPermutation, normal_form-permuted, normal_form-append, normal_form-length, normal_form-all}
 use Rattle.chv_types.specs.declared.kind.Kind.{Kind}
 use Rattle.chv_types.specs.declared.value.Value.{Value}
-use Rattle.chv_part.specs.Books.{TableForm, Entry, Book, MAX_ROWS, IsEntry, appended, IsLawfulBook, rows_in, part_rows}
+use Rattle.chv_sip.specs.BlockIds.{SourceKey}
+use Rattle.chv_part.specs.Books.{TableForm, Entry, Book, MAX_ROWS, normal_rows, IsEntry, appended, IsLawfulBook, rows_in, part_rows}
+use Rattle.chv_part.specs.Naming.{entry_of}
 
 -- rows in normal form are their own
 pub normal_form-normal_form : (key : List ℕ) (rows : List (List Value)) → normal_form key (normal_form key rows) ≡ normal_form key rows
@@ -54,28 +56,22 @@ slice_range-push {A} xs x a b within =
           ap (λ (n : ℕ). take n (drop a (xs ++ x ∷ []))) none ∙ sym (ap (λ (n : ℕ). take n (drop a xs)) none)
     ]
 
--- the rows of an entry are in normal form
-pub entry_rows-normal_form : (kinds : List Kind) (key : List ℕ) (entry : Entry) → IsEntry kinds key entry → normal_form key entry.rows ≡ entry.rows
-entry_rows-normal_form kinds key entry is =
-    let rows_are : entry.rows ≡ normal_form key is.block = ap (λ (e : Entry). e.rows) is.is in
-    ap (normal_form key) rows_are ∙ normal_form-normal_form key is.block ∙ sym rows_are
-
 -- an older part has the rows that it had
-pub part_rows-older : (key : List ℕ) (entry : Entry) (book : Book) (lo hi : ℕ) → hi ≤ length book.entries → part_rows key (appended entry book) lo hi ≡ part_rows key book lo hi
-part_rows-older key entry book lo hi within =
-    ap (λ (entries : List Entry). normal_form key (rows_of entries)) (slice_range-push book.entries entry (lo - 1) hi within)
+pub part_rows-older : (form : TableForm) (entry : Entry) (book : Book) (lo hi : ℕ) → hi ≤ length book.entries → part_rows form (appended entry book) lo hi ≡ part_rows form book lo hi
+part_rows-older form entry book lo hi within =
+    ap (λ (entries : List Entry). normal_rows form (rows_of entries)) (slice_range-push book.entries entry (lo - 1) hi within)
 
 -- the part of a new entry has its rows
-pub part_rows-newest : (kinds : List Kind) (key : List ℕ) (entry : Entry) (book : Book) → IsEntry kinds key entry
-    → part_rows key (appended entry book) (length book.entries + 1) (length book.entries + 1) ≡ entry.rows
-part_rows-newest kinds key entry book is =
+pub part_rows-newest : (form : TableForm) (entry : Entry) (book : Book) → IsEntry form entry
+    → part_rows form (appended entry book) (length book.entries + 1) (length book.entries + 1) ≡ entry.rows
+part_rows-newest form entry book is =
     let n : ℕ = length book.entries in
     let before : n + 1 - 1 ≡ n = omega arith in
     let one : n + 1 - n ≡ 1 = omega arith in
     let alone : slice_range (book.entries ++ entry ∷ []) (n + 1 - 1) (n + 1) ≡ entry ∷ [] =
     ap (λ (k : ℕ). slice_range (book.entries ++ entry ∷ []) k (n + 1)) before
     ∙ ap₂ (λ (k : ℕ) (l : List Entry). take k l) one (drop_at book.entries (entry ∷ []) n refl) in
-    ap (λ (entries : List Entry). normal_form key (rows_of entries)) alone ∙ ap (normal_form key) (append-nil entry.rows) ∙ entry_rows-normal_form kinds key entry is
+    ap (λ (entries : List Entry). normal_rows form (rows_of entries)) alone ∙ ap (normal_rows form) (append-nil entry.rows) ∙ is.normal
 
 -- rows of kinds are so one by one, and the other way round
 AllAreOf-each : (kinds : List Kind) (rows : List (List Value)) → AllAreOf kinds rows → All (AreOf kinds) rows
@@ -93,81 +89,80 @@ AllAreOf-append : (kinds : List Kind) (a b : List (List Value)) → AllAreOf kin
 AllAreOf-append kinds [] b of_a of_b = of_b
 AllAreOf-append kinds (row ∷ a) b of_a of_b = (of_a.0, AllAreOf-append kinds a b of_a.1 of_b)
 
--- the rows of an entry are of the kinds of its table, and no more than a block has
-pub entry_rows-kinds : (kinds : List Kind) (key : List ℕ) (entry : Entry) → IsEntry kinds key entry → AllAreOf kinds entry.rows
-entry_rows-kinds kinds key entry is =
-    subst (AllAreOf kinds) (sym (ap (λ (e : Entry). e.rows) is.is)) (AllAreOf-normal_form kinds key is.block is.kinds_fit)
+-- a block of one row or more arrives as an entry
+pub IsEntry-entry_of : (form : TableForm) (source : SourceKey) (block : List (List Value)) → AllAreOf form.kinds block → 1 ≤ length block → length block ≤ MAX_ROWS → IsEntry form (entry_of form source block)
+IsEntry-entry_of form source block are some most = record {
+  kinds_fit = AllAreOf-normal_form form.kinds form.key block are;
+  normal = normal_form-normal_form form.key block;
+  some = omega (arith, some, normal_form-length form.key block);
+  most = omega (arith, most, normal_form-length form.key block);
+}
 
-pub length-entry_rows : (kinds : List Kind) (key : List ℕ) (entry : Entry) → IsEntry kinds key entry → (1 ≤ length entry.rows) × (length entry.rows ≤ MAX_ROWS)
-length-entry_rows kinds key entry is =
-    let long : length entry.rows ≡ length is.block = ap (λ (e : Entry). length e.rows) is.is ∙ normal_form-length key is.block in
-    (omega (arith, long, is.some), omega (arith, long, is.most))
+-- the rows of entries are of the kinds of their table, and no more than blocks have
+rows_of-kinds : (form : TableForm) (entries : List Entry) → All (IsEntry form) entries → AllAreOf form.kinds (rows_of entries)
+rows_of-kinds form [] are = tt
+rows_of-kinds form (entry ∷ entries) are =
+    AllAreOf-append form.kinds entry.rows (rows_of entries) (All-head (IsEntry form) entry entries are).kinds_fit
+    (rows_of-kinds form entries (All-tail (IsEntry form) entry entries are))
 
-rows_of-kinds : (kinds : List Kind) (key : List ℕ) (entries : List Entry) → All (IsEntry kinds key) entries → AllAreOf kinds (rows_of entries)
-rows_of-kinds kinds key [] are = tt
-rows_of-kinds kinds key (entry ∷ entries) are =
-    AllAreOf-append kinds entry.rows (rows_of entries) (entry_rows-kinds kinds key entry (All-head (IsEntry kinds key) entry entries are))
-    (rows_of-kinds kinds key entries (All-tail (IsEntry kinds key) entry entries are))
-
-length-rows_of : (kinds : List Kind) (key : List ℕ) (entries : List Entry) → All (IsEntry kinds key) entries → length (rows_of entries) ≤ MAX_ROWS * length entries
-length-rows_of kinds key [] are = omega arith
-length-rows_of kinds key (entry ∷ entries) are =
+length-rows_of : (form : TableForm) (entries : List Entry) → All (IsEntry form) entries → length (rows_of entries) ≤ MAX_ROWS * length entries
+length-rows_of form [] are = omega arith
+length-rows_of form (entry ∷ entries) are =
     omega (
       arith,
       length-append entry.rows (rows_of entries),
-      length-entry_rows kinds key entry (All-head (IsEntry kinds key) entry entries are),
-      length-rows_of kinds key entries (All-tail (IsEntry kinds key) entry entries are),
+      (All-head (IsEntry form) entry entries are).most,
+      length-rows_of form entries (All-tail (IsEntry form) entry entries are),
     )
 
 module _ (form : TableForm) (book : Book) (lawful : IsLawfulBook form book) where
-  range_entries : (lo hi : ℕ) → All (IsEntry form.kinds form.key) (slice_range book.entries (lo - 1) hi)
-  range_entries lo hi =
-      All-take (IsEntry form.kinds form.key) (hi - (lo - 1)) (drop (lo - 1) book.entries) (All-drop (IsEntry form.kinds form.key) (lo - 1) book.entries lawful.entries)
+  range_entries : (lo hi : ℕ) → All (IsEntry form) (slice_range book.entries (lo - 1) hi)
+  range_entries lo hi = All-take (IsEntry form) (hi - (lo - 1)) (drop (lo - 1) book.entries) (All-drop (IsEntry form) (lo - 1) book.entries lawful.entries)
 
   -- the rows of a part are of the kinds of its table, and a number of 64 bits counts them
-  pub part_rows-kinds : (lo hi : ℕ) → AllAreOf form.kinds (part_rows form.key book lo hi)
+  pub part_rows-kinds : (lo hi : ℕ) → AllAreOf form.kinds (part_rows form book lo hi)
   part_rows-kinds lo hi =
       let entries : List Entry = slice_range book.entries (lo - 1) hi in
-      AllAreOf-normal_form form.kinds form.key (rows_of entries) (rows_of-kinds form.kinds form.key entries (range_entries lo hi))
+      AllAreOf-normal_form form.kinds form.key (rows_of entries) (rows_of-kinds form entries (range_entries lo hi))
 
-  pub length-part_rows : (lo hi : ℕ) → length (part_rows form.key book lo hi) < 2 ^ 64
+  pub length-part_rows : (lo hi : ℕ) → length (part_rows form book lo hi) < 2 ^ 64
   length-part_rows lo hi =
       let entries : List Entry = slice_range book.entries (lo - 1) hi in
       omega (
         arith,
         normal_form-length form.key (rows_of entries),
-        length-rows_of form.kinds form.key entries (range_entries lo hi),
+        length-rows_of form entries (range_entries lo hi),
         length-take (hi - (lo - 1)) (drop (lo - 1) book.entries),
         length-drop (lo - 1) book.entries,
         lawful.bounded,
       )
 
 -- the rows of parts, one behind the other
-abbrev pub rows_of_parts : List ℕ → Book → List PartRow → List (List Value)
-rows_of_parts key book layout = flat_map (λ (row : PartRow). part_rows key book row.lo row.hi) layout
+abbrev pub rows_of_parts : TableForm → Book → List PartRow → List (List Value)
+rows_of_parts form book layout = flat_map (λ (row : PartRow). part_rows form book row.lo row.hi) layout
 
 -- the rows of parts that cut the entries from one to another into runs have the normal form of the entries' rows
-rows_of_runs-normal_form : (key : List ℕ) (book : Book) (first last : ℕ) (layout : List PartRow) → 1 ≤ first → AreRuns first last (map span_of layout)
-    → normal_form key (rows_of_parts key book layout) ≡ normal_form key (rows_of (slice_range book.entries (first - 1) last))
-rows_of_runs-normal_form key book first last [] low runs =
+rows_of_runs-normal_form : (form : TableForm) (book : Book) (first last : ℕ) (layout : List PartRow) → 1 ≤ first → AreRuns first last (map span_of layout)
+    → normal_rows form (rows_of_parts form book layout) ≡ normal_rows form (rows_of (slice_range book.entries (first - 1) last))
+rows_of_runs-normal_form form book first last [] low runs =
     let none : last - (first - 1) ≡ 0 = omega (arith, runs) in
-    sym (ap (λ (n : ℕ). normal_form key (rows_of (take n (drop (first - 1) book.entries)))) none)
-rows_of_runs-normal_form key book first last (row ∷ layout) low runs =
+    sym (ap (λ (n : ℕ). normal_rows form (rows_of (take n (drop (first - 1) book.entries)))) none)
+rows_of_runs-normal_form form book first last (row ∷ layout) low runs =
     let ordered = AreRuns-order (row.hi + 1) last (map span_of layout) runs.2 in
     let on : row.hi + 1 - 1 ≡ row.hi = omega arith in
     let begins : row.lo - 1 ≡ first - 1 = ap (λ (n : ℕ). n - 1) runs.0 in
     let here : List Entry = slice_range book.entries (row.lo - 1) row.hi in
     let behind : List Entry = slice_range book.entries row.hi last in
-    normal_form-first key (rows_of here) (rows_of_parts key book layout) (rows_of behind)
-    (rows_of_runs-normal_form key book (row.hi + 1) last layout (omega arith) runs.2 ∙ ap (λ (n : ℕ). normal_form key (rows_of (slice_range book.entries n last))) on)
-    ∙ ap (normal_form key) (sym (flat_map-append (λ (entry : Entry). entry.rows) here behind))
-    ∙ ap (λ (entries : List Entry). normal_form key (rows_of entries))
+    normal_form-first form.key (rows_of here) (rows_of_parts form book layout) (rows_of behind)
+    (rows_of_runs-normal_form form book (row.hi + 1) last layout (omega arith) runs.2 ∙ ap (λ (n : ℕ). normal_rows form (rows_of (slice_range book.entries n last))) on)
+    ∙ ap (normal_rows form) (sym (flat_map-append (λ (entry : Entry). entry.rows) here behind))
+    ∙ ap (λ (entries : List Entry). normal_rows form (rows_of entries))
     (slice_range-append book.entries (row.lo - 1) row.hi last (omega (arith, begins, runs.1)) (omega (arith, ordered)) ∙ ap (λ (n : ℕ). slice_range book.entries n last) begins)
 
 -- the rows of all live parts have the normal form of all rows
-pub rows_of_parts-normal_form : (key : List ℕ) (book : Book) (layout : List PartRow) → AreRuns 1 (length book.entries) book.layout → book.layout ≡ map span_of layout
-    → normal_form key (rows_of_parts key book layout) ≡ normal_form key (rows_in book)
-rows_of_parts-normal_form key book layout runs are =
+pub rows_of_parts-normal_form : (form : TableForm) (book : Book) (layout : List PartRow) → AreRuns 1 (length book.entries) book.layout → book.layout ≡ map span_of layout
+    → normal_rows form (rows_of_parts form book layout) ≡ normal_rows form (rows_in book)
+rows_of_parts-normal_form form book layout runs are =
     let first : 1 - 1 ≡ 0 = omega arith in
-    rows_of_runs-normal_form key book 1 (length book.entries) layout (omega arith) (subst (λ (spans : List Span). AreRuns 1 (length book.entries) spans) are runs)
-    ∙ ap (λ (entries : List Entry). normal_form key (rows_of entries)) (take_rest book.entries (1 - 1) ∙ ap (λ (n : ℕ). drop n book.entries) first)
+    rows_of_runs-normal_form form book 1 (length book.entries) layout (omega arith) (subst (λ (spans : List Span). AreRuns 1 (length book.entries) spans) are runs)
+    ∙ ap (λ (entries : List Entry). normal_rows form (rows_of entries)) (take_rest book.entries (1 - 1) ∙ ap (λ (n : ℕ). drop n book.entries) first)

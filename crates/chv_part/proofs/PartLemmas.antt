@@ -1,5 +1,5 @@
 -- The files of parts, and that each is read in one way.
-use Rattle.std.proofs.Common.{◌≡◌, ◌≢◌, ℕ, ◌+◌, ◌-◌, ◌*◌, ◌/◌, ◌^◌, ◌<◌, ◌≤◌, min, List, [], ◌++◌, length, take, drop, codes, refl, sym, ap, ◌∙◌, arith, append_assoc, length-append}
+use Rattle.std.proofs.Common.{◌≡◌, ◌≢◌, ℕ, ◌+◌, ◌-◌, ◌*◌, ◌/◌, ◌^◌, ◌<◌, ◌≤◌, min, List, [], ◌++◌, length, Result, Ok, Err, IfOk, subst, take, drop, codes, refl, sym, ap, ap₂, ◌∙◌, arith, append_assoc, length-append, length-drop, take_all, take-append-drop}
 use Rattle.std.proofs.Math.Nat.{le-div_iff_mul-le}
 use Rattle.std.specs.Int.{w32, w64, to_le_bytes}
 use Rattle.byteorder.specs.Endian.{little_number}
@@ -9,8 +9,10 @@ use Rattle.chv_types.specs.declared.value.Value.{Value}
 use Rattle.chv_bytes.proofs.NumberLemmas.{same_split}
 use Rattle.chv_block.specs.Spellings.{AllAreOf, codes_of}
 use Rattle.chv_sip.specs.BlockIds.{keyed_hash, first_key}
+use Rattle.chv_part.specs.Books.{TableForm}
 use Rattle.chv_part.specs.Columns.{head_spelling}
-use Rattle.chv_part.specs.Parts.{columns_spelling, part_body, frame_head, framed, part_frame, part_file, HashDiffers, IsShapeless}
+use Rattle.chv_part.specs.Parts.{columns_spelling, part_body, frame_head, framed, part_frame, part_file, IsPartFile, HashDiffers, IsShapeless}
+use Rattle.chv_part.specs.declared.reading.PartFault.{PartFault}
 use Rattle.chv_part.proofs.ColumnLemmas.{one_table}
 use Rattle.chv_part.proofs.RoomLemmas.{columns_fit, rows_fit}
 
@@ -24,15 +26,6 @@ number-unique a b x y of_a of_b same = (
 -- framed bodies that are one file are one body
 pub framed-body : (a b : ℕ) (x y : List ℕ) → framed a x ≡ framed b y → x ≡ y
 framed-body a b x y same = ap (λ (l : List ℕ). drop 24 l) same
-
--- a frame whose length is not that of the bytes behind it fits no body
-pub misframed : (file body : List ℕ) (size kept : ℕ) → file ≡ codes "CHVPART1" ++ (to_le_bytes w64 size ++ (to_le_bytes w64 kept ++ body)) → size < 2 ^ 64 → length body < 2 ^ 64 → size ≢ length body
-    → (other : ℕ) (b : List ℕ) → file ≢ framed other b
-misframed file body size kept spelled of_size of_length differ other b same =
-    let alike : body ≡ b = ap (λ (l : List ℕ). drop 24 l) (sym spelled ∙ same) in
-    let long : length b < 2 ^ 64 = omega (arith, ap length alike) in
-    let sizes = number-unique size (length b) (to_le_bytes w64 kept ++ body) (to_le_bytes w64 other ++ b) of_size long (ap (λ (l : List ℕ). drop 8 l) (sym spelled ∙ same)) in
-    differ (sizes.0 ∙ ap length (sym alike))
 
 -- a file that begins with no head of a frame of its length is not framed
 pub no_frame : (file head : List ℕ) (size count : ℕ) → size ≡ length file → count ≡ min 24 size → head ≡ take count file → (24 ≤ size → (kept : ℕ) → head ≢ frame_head (size - 24) kept)
@@ -51,22 +44,42 @@ fits_head head rest size length kept other of_size of_length spelled same =
     let sizes = number-unique length size (to_le_bytes w64 kept ++ rest) (to_le_bytes w64 other) of_length of_size (ap (λ (l : List ℕ). drop 8 l) (sym spelled ∙ same)) in
     (sizes.0, ap (λ (l : List ℕ). drop 8 l) sizes.1)
 
+-- the head of a frame of its length, and the bytes behind it, are a framed file
+pub framed_by_head : (file body : List ℕ) (size kept count : ℕ) → 24 ≤ size → size ≡ length file → take 24 file ≡ frame_head (size - 24) kept
+    → count ≡ min (size - 24) (length file - 24) → body ≡ take count (drop 24 file) → file ≡ framed kept body
+framed_by_head file body size kept count room long head counts read =
+    let all : length (drop 24 file) ≤ count = omega (arith, counts, long, length-drop 24 file) in
+    let behind : body ≡ drop 24 file = read ∙ take_all count (drop 24 file) all in
+    let sized : size - 24 ≡ length body = omega (arith, ap length behind, long, length-drop 24 file) in
+    sym (take-append-drop 24 file) ∙ ap₂ (λ (x y : List ℕ). x ++ y) (head ∙ ap (λ (n : ℕ). frame_head n kept) sized) (sym behind)
+
+-- what is read of a frame is what its file has
+pub read_of_frame : (kinds : List Kind) (file frame : List ℕ) (result : Result (List (List Value)) PartFault) → file ≡ frame → IfOk result (λ rows. frame ≡ part_file kinds rows)
+    → IfOk result (λ rows. AllAreOf kinds rows) → IfOk result (λ rows. (form : TableForm) → form.kinds ≡ kinds → IsPartFile form rows file)
+read_of_frame kinds file frame (Ok rows) is spelled fits = λ form same. record {
+  kinds_fit = subst (λ (ks : List Kind). AllAreOf ks rows) (sym same) fits;
+  spelled = is ∙ spelled ∙ ap (λ (ks : List Kind). part_file ks rows) (sym same);
+}
+read_of_frame kinds file frame (Err fault) is spelled fits = tt
+
 -- a file without a frame is no part's
-pub frameless : (kinds : List Kind) (file : List ℕ) → ((kept : ℕ) (body : List ℕ) → file ≢ framed kept body) → IsShapeless kinds file
+pub frameless : (form : TableForm) (file : List ℕ) → ((kept : ℕ) (body : List ℕ) → file ≢ framed kept body) → IsShapeless form file
 unfolding part_file
-frameless kinds file none = record {
-  off = λ rows of. none (keyed_hash first_key (part_body kinds rows)) (part_body kinds rows);
+frameless form file none = record {
+  off = λ rows is. none (keyed_hash first_key (part_body form.kinds rows)) (part_body form.kinds rows) is.spelled;
   hash = λ kept body same. absurd (none kept body same);
 }
 
 -- nor is one whose body is that of no rows
-pub off_body : (kinds : List Kind) (file body : List ℕ) → file ≡ part_frame body → ((rows : List (List Value)) → AllAreOf kinds rows → body ≢ part_body kinds rows) → IsShapeless kinds file
+pub off_body : (form : TableForm) (file : List ℕ) (kept : ℕ) (body : List ℕ) → file ≡ framed kept body → framed kept body ≡ part_frame body
+    → ((rows : List (List Value)) → AllAreOf form.kinds rows → body ≢ part_body form.kinds rows) → IsShapeless form file
 unfolding part_file
-off_body kinds file body spelled none =
-    let hash = keyed_hash first_key body in
+off_body form file kept body spelled right none =
     record {
-      off = λ rows of same. none rows of (framed-body hash (keyed_hash first_key (part_body kinds rows)) body (part_body kinds rows) (sym spelled ∙ same));
-      hash = λ kept other same. spelled ∙ ap part_frame (framed-body hash kept body other (sym spelled ∙ same));
+      off = λ rows is.
+          let theirs : List ℕ = part_body form.kinds rows in
+          none rows is.kinds_fit (framed-body kept (keyed_hash first_key theirs) body theirs (sym spelled ∙ is.spelled));
+      hash = λ hash other same. spelled ∙ right ∙ ap part_frame (framed-body kept hash body other (sym spelled ∙ same));
     }
 
 -- two hashes of one body in one file are one
@@ -78,15 +91,15 @@ other_hash : (kept found : ℕ) (file : List ℕ) → (d : HashDiffers kept foun
 other_hash kept found file d same = d.differ (framed-hash kept found d.body d.words.0 d.words.1 (sym d.frame ∙ same ∙ ap (λ (hash : ℕ). framed hash d.body) (sym d.hash)))
 
 -- a fault of the hash and one of the shape exclude each other
-pub hash_or_shape : (kinds : List Kind) (kept found : ℕ) (file : List ℕ) → HashDiffers kept found file → IsShapeless kinds file → ⊥
-hash_or_shape kinds kept found file d shape = other_hash kept found file d (shape.hash kept d.body d.frame)
+pub hash_or_shape : (form : TableForm) (kept found : ℕ) (file : List ℕ) → HashDiffers kept found file → IsShapeless form file → ⊥
+hash_or_shape form kept found file d shape = other_hash kept found file d (shape.hash kept d.body d.frame)
 
 -- the file of rows has no fault of the hash
-pub hash_of_whole : (kinds : List Kind) (kept found : ℕ) (rows : List (List Value)) (file : List ℕ) → file ≡ part_file kinds rows → HashDiffers kept found file → ⊥
+pub hash_of_whole : (form : TableForm) (kept found : ℕ) (rows : List (List Value)) (file : List ℕ) → IsPartFile form rows file → HashDiffers kept found file → ⊥
 unfolding part_file
-hash_of_whole kinds kept found rows file whole d =
-    let body = part_body kinds rows in
-    other_hash kept found file d (whole ∙ ap part_frame (framed-body (keyed_hash first_key body) kept body d.body (sym whole ∙ d.frame)))
+hash_of_whole form kept found rows file whole d =
+    let body = part_body form.kinds rows in
+    other_hash kept found file d (whole.spelled ∙ ap part_frame (framed-body (keyed_hash first_key body) kept body d.body (sym whole.spelled ∙ d.frame)))
 
 -- behind the kinds stand the number of rows and the columns
 behind_kinds : (kinds : List Kind) (n : ℕ) (rows : List (List Value)) (columns : List ℕ) → head_spelling kinds n ++ columns ≡ part_body kinds rows
@@ -128,3 +141,6 @@ part_file-unique kinds a b of_a of_b h k same =
     let bodies : part_body kinds a ≡ part_body kinds b = ap (λ (l : List ℕ). drop 24 l) same in
     let agree = body_agrees kinds (length a) b (columns_spelling 0 kinds a) of_a of_b bodies in
     (one_table kinds a b [] [] agree.0 h k (ap (λ (l : List ℕ). l ++ []) agree.1)).0
+
+pub IsPartFile-unique : (form : TableForm) (a b : List (List Value)) (file : List ℕ) → length a < 2 ^ 64 → length b < 2 ^ 64 → IsPartFile form a file → IsPartFile form b file → a ≡ b
+IsPartFile-unique form a b file of_a of_b is_a is_b = part_file-unique form.kinds a b of_a of_b is_a.kinds_fit is_b.kinds_fit (sym is_a.spelled ∙ is_b.spelled)

@@ -1,5 +1,7 @@
+pub mod Arriving
 pub mod Books
 pub mod Columns
+pub mod Forms
+pub mod Naming
 pub mod Parts
 pub mod Standing
-pub mod Writing

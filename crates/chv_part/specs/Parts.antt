@@ -5,6 +5,7 @@ use Rattle.chv_block.specs.Spellings.{AllAreOf, codes_of, value_spelling}
 use Rattle.chv_sip.specs.BlockIds.{keyed_hash, first_key}
 use Rattle.chv_types.specs.declared.kind.Kind.{Kind}
 use Rattle.chv_types.specs.declared.value.Value.{Value}
+use Rattle.chv_part.specs.Books.{TableForm}
 use Rattle.chv_part.specs.declared.reading.PartFault.{PartFault}
 use Rattle.chv_part.specs.declared.reading.PartFault.TheVariants.{Failed, Hash, Shape, NoMemory}
 
@@ -32,17 +33,22 @@ part_body kinds rows =
 abbrev pub frame_head : ℕ → ℕ → List ℕ
 frame_head size kept = codes "CHVPART1" ++ to_le_bytes w64 size ++ to_le_bytes w64 kept
 
--- a body in a frame that keeps this hash: a mark, the body's length, the hash, and the body
+-- a body in a frame that keeps this hash
 abbrev pub framed : ℕ → List ℕ → List ℕ
-framed kept body = codes "CHVPART1" ++ to_le_bytes w64 (length body) ++ to_le_bytes w64 kept ++ body
+framed kept body = frame_head (length body) kept ++ body
 
 -- a body in its frame, which keeps the body's hash
 abbrev pub part_frame : List ℕ → List ℕ
 part_frame body = framed (keyed_hash first_key body) body
 
--- the file of a part
+-- the bytes of a part with these rows
 unfoldable pub part_file : List Kind → List (List Value) → List ℕ
 part_file kinds rows = part_frame (part_body kinds rows)
+
+-- a file is that of a part of a table of this form, with these rows
+pub record IsPartFile (form : TableForm) (rows : List (List Value)) (file : List ℕ) : Type 0 where
+  pub kinds_fit : AllAreOf form.kinds rows
+  pub spelled : file ≡ part_file form.kinds rows
 
 -- the frame of a file fits, and keeps another hash than the one that is found of its body
 pub record HashDiffers (kept found : ℕ) (file : List ℕ) : Type 0 where
@@ -52,14 +58,14 @@ pub record HashDiffers (kept found : ℕ) (file : List ℕ) : Type 0 where
   pub words : (kept < 2 ^ 64) × (found < 2 ^ 64)
   pub differ : kept ≢ found
 
--- a file is that of no rows of these kinds; and its frame does not fit, or keeps the hash of its body
-pub record IsShapeless (kinds : List Kind) (file : List ℕ) : Type 0 where
-  pub off : (rows : List (List Value)) → AllAreOf kinds rows → file ≢ part_file kinds rows
+-- a file is that of no part of a table of this form; and its frame does not fit, or keeps the hash of its body
+pub record IsShapeless (form : TableForm) (file : List ℕ) : Type 0 where
+  pub off : (rows : List (List Value)) → IsPartFile form rows file → ⊥
   pub hash : (kept : ℕ) (body : List ℕ) → file ≡ framed kept body → file ≡ part_frame body
 
--- the file is that of some rows of these kinds
-abbrev pub IsWhole : List Kind → List ℕ → Type 0
-IsWhole kinds file = (rows : List (List Value)) × AllAreOf kinds rows × (file ≡ part_file kinds rows)
+-- a file is that of some part of a table of this form
+abbrev pub IsWhole : TableForm → List ℕ → Type 0
+IsWhole form file = (rows : List (List Value)) × IsPartFile form rows file
 
 -- a fault of the file itself
 abbrev pub IsDamage : PartFault → Type 0

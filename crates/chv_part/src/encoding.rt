@@ -14,7 +14,7 @@ use std::alloc::{AllocError, Global};
 /// What the file of a part begins with.
 pub const MARK: [u8; 8] = *b"CHVPART1";
 
-/// The bytes in front of a body: the mark, the body's length and its hash.
+/// The number of bytes in front of a body: the mark, the body's length and its hash.
 pub const FRAME_BYTES: usize = 24;
 
 /// The file of a part: a frame that keeps the body's hash, and the values of the rows column by column.

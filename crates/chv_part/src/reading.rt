@@ -1,16 +1,15 @@
 // How the file of a part is read back.
-ghost use Rattle.std.specs.Prelude.{◌≡◌, ◌≢◌, ◌++◌, ◌+◌, ◌-◌, ◌*◌, ◌<◌, ◌≤◌, ◌^◌, List, ℕ, true, length, IfOk, IfErr, IfSome, IsNone, IsErrOf, [], drop};
+ghost use Rattle.std.specs.Prelude.{◌≡◌, ◌≢◌, ◌++◌, ◌+◌, ◌-◌, ◌*◌, ◌<◌, ◌≤◌, ◌^◌, List, ℕ, length, IfOk, IfErr, IfSome, IsNone, IsErrOf, [], take, drop};
 ghost use Rattle.std.specs.Int.{w64, to_le_bytes};
-ghost use Rattle.chv_site.specs.Faults.{HasRisen, IsCounted};
-ghost use Rattle.chv_site.specs.Files.{KeepsFiles};
-ghost use Rattle.chv_site.specs.Images.{IsLeft};
-ghost use Rattle.chv_site.specs.During.{During};
+ghost use Rattle.chv_site.specs.Outside.{bytes_in};
+ghost use Rattle.chv_site.specs.Effects.{OnlyReads};
 ghost use Rattle.std.specs.List.{All};
 ghost use Rattle.chv_types.specs.Values.{IsPlain};
 ghost use Rattle.chv_types.specs.declared.value.Value.{Value};
 ghost use Rattle.chv_block.specs.Spellings.{AllAreOf};
+ghost use Rattle.chv_part.specs.Books.{TableForm, AreColumns};
 ghost use Rattle.chv_part.specs.Columns.{ColumnIsOf, HasGained, head_spelling};
-ghost use Rattle.chv_part.specs.Parts.{column_spelling, columns_spelling, part_body, frame_head, framed, part_frame, part_file, HashDiffers, IsShapeless, IsDamage};
+ghost use Rattle.chv_part.specs.Parts.{column_spelling, columns_spelling, part_body, frame_head, framed, part_frame, part_file, IsPartFile, HashDiffers, IsShapeless, IsDamage};
 
 use crate::encoding::{FRAME_BYTES, MARK};
 use byteorder::{ByteOrder, LittleEndian};
@@ -58,66 +57,45 @@ impl From<AllocError> for PartFault {
 /// The rows of a part of a table with columns of these kinds, in the order that they have there. It changes no file.
 ///
 /// A file that is absent, cut short or of other kinds has no shape. No length in it is trusted: memory is taken for the
-/// file once its frame has the length that the file has, and for as many rows as the body has room for.
+/// body once the frame has the length that the file has, and for as many rows as the body has room for.
 pub fn read_part<W: Site>(
     alloc: Global,
     site: &mut W,
     f: FileId,
     kinds: &Kinds,
 ) -> Result<Block, PartFault>
-    requires some { 1 ≤ length kinds.now }
-    requires most { length kinds.now ≤ 64 }
-    requires plain { All IsPlain kinds.now }
-    ensures read { W.tells → IfOk result (λ rows. (W.state site.old f).bytes ≡ part_file kinds.now rows) }
+    requires columns { AreColumns kinds.now }
+    ensures read { W.tells → IfOk result (λ rows. (form : TableForm) → form.kinds ≡ kinds.now → IsPartFile form rows (bytes_in (W.outside site.old) f)) }
     ensures kinds { IfOk result (λ rows. AllAreOf kinds.now rows) }
-    ensures hash { W.tells → (kept found : ℕ) → IsErrOf result (PartFault.Hash kept found) → HashDiffers kept found (W.state site.old f).bytes }
+    ensures hash { W.tells → (kept found : ℕ) → IsErrOf result (PartFault.Hash kept found) → HashDiffers kept found (bytes_in (W.outside site.old) f) }
     ensures differ { (kept found : ℕ) → IsErrOf result (PartFault.Hash kept found) → kept ≢ found }
-    ensures shape { W.tells → IsErrOf result PartFault.Shape → IsShapeless kinds.now (W.state site.old f).bytes }
-    ensures files { W.tells → KeepsFiles (W.state site.old) (W.state site.new) }
-    ensures said { W.tells → W.said site.new ≡ W.said site.old }
-    ensures during { W.tells → During W.moment W.left_since site.old site.new (IsLeft (W.state site.old) (W.said site.old)) }
-    ensures faults { W.disk_faults site.old ≤ W.disk_faults site.new }
-    ensures failed { IsErrOf result PartFault.Failed → HasRisen (W.disk_faults site.old) (W.disk_faults site.new) }
-    ensures other_faults { W.say_faults site.new ≡ W.say_faults site.old }
+    ensures shape { W.tells → IsErrOf result PartFault.Shape → (form : TableForm) → form.kinds ≡ kinds.now → IsShapeless form (bytes_in (W.outside site.old) f) }
+    ensures keeps { OnlyReads W.tells (IsErrOf result PartFault.Failed) (W.outside site.old) (W.outside site.new) }
 {
-    let file = read_file(alloc, site, f)?;
-    part_rows(alloc, &file, kinds)
+    let frame = read_frame(alloc, site, f)?;
+    framed_rows(alloc, frame.kept, &frame.body, kinds)
 }
 
-// The bytes of a file, where its frame has its length: memory is taken behind that.
-fn read_file<W: Site>(alloc: Global, site: &mut W, f: FileId) -> Result<Vec<u8>, PartFault>
-    ensures read { W.tells → IfOk result (λ file. file.items ≡ (W.state site.old f).bytes) }
-    ensures shape { W.tells → IsErrOf result PartFault.Shape → (kept : ℕ) (body : List ℕ) → (W.state site.old f).bytes ≢ framed kept body }
-    ensures files { W.tells → KeepsFiles (W.state site.old) (W.state site.new) }
-    ensures said { W.tells → W.said site.new ≡ W.said site.old }
-    ensures during { W.tells → During W.moment W.left_since site.old site.new (IsLeft (W.state site.old) (W.said site.old)) }
-    ensures faults { W.disk_faults site.old ≤ W.disk_faults site.new }
-    ensures failed { IsErrOf result PartFault.Failed → HasRisen (W.disk_faults site.old) (W.disk_faults site.new) }
+// A frame: the hash that it keeps, and the body.
+#[derive(Drop)]
+struct Frame {
+    kept: u64,
+    body: Vec<u8>,
+}
+
+// The frame that a file is. Its head has to fit the file before memory is taken for the body.
+fn read_frame<W: Site>(alloc: Global, site: &mut W, f: FileId) -> Result<Frame, PartFault>
+    ensures read { W.tells → IfOk result (λ frame. bytes_in (W.outside site.old) f ≡ framed frame.kept frame.body.items) }
+    ensures shape { W.tells → IsErrOf result PartFault.Shape → (kept : ℕ) (body : List ℕ) → bytes_in (W.outside site.old) f ≢ framed kept body }
     ensures unhashed { (kept found : ℕ) → IsErrOf result (PartFault.Hash kept found) → ⊥ }
-    ensures other_faults { W.say_faults site.new ≡ W.say_faults site.old }
-{
-    match framed_size(site, f)? {
-        Some(size) => read_whole(alloc, site, f, size),
-        None => Err(PartFault::Shape),
-    }
-}
-
-// The length of a file, where the frame that it begins with has it.
-fn framed_size<W: Site>(site: &mut W, f: FileId) -> Result<Option<u64>, Failed>
-    ensures size { W.tells → IfOk result (λ read. IfSome read (λ size. size ≡ length (W.state site.old f).bytes)) }
-    ensures none { W.tells → IfOk result (λ read. IsNone read → (kept : ℕ) (body : List ℕ) → (W.state site.old f).bytes ≢ framed kept body) }
-    ensures files { W.tells → KeepsFiles (W.state site.old) (W.state site.new) }
-    ensures said { W.tells → W.said site.new ≡ W.said site.old }
-    ensures during { W.tells → During W.moment W.left_since site.old site.new (IsLeft (W.state site.old) (W.said site.old)) }
-    ensures failed { IsCounted (W.disk_faults site.old) (W.disk_faults site.new) result }
-    ensures other_faults { W.say_faults site.new ≡ W.say_faults site.old }
+    ensures keeps { OnlyReads W.tells (IsErrOf result PartFault.Failed) (W.outside site.old) (W.outside site.new) }
 {
     let size = site.size(f)?;
     let mut head = [0u8; FRAME_BYTES];
     let count = site.fetch(f, 0, &mut head)?;
     match kept_hash(&head[..count], size) {
-        Some(_) => Ok(Some(size)),
-        None => Ok(None),
+        Some(kept) => read_body(alloc, site, f, kept, size),
+        None => Err(PartFault::Shape),
     }
 }
 
@@ -135,77 +113,46 @@ fn kept_hash(head: &[u8], size: u64) -> Option<u64>
     Some(kept)
 }
 
-// The bytes of a file of this length, which are read into one buffer.
-fn read_whole<W: Site>(
+// The frame of a file of this size, whose head keeps this hash.
+fn read_body<W: Site>(
     alloc: Global,
     site: &mut W,
     f: FileId,
+    kept: u64,
     size: u64,
-) -> Result<Vec<u8>, PartFault>
-    requires size { W.tells → size ≡ length (W.state site.old f).bytes }
-    ensures read { W.tells → IfOk result (λ file. file.items ≡ (W.state site.old f).bytes) }
-    ensures files { W.tells → KeepsFiles (W.state site.old) (W.state site.new) }
-    ensures said { W.tells → W.said site.new ≡ W.said site.old }
-    ensures during { W.tells → During W.moment W.left_since site.old site.new (IsLeft (W.state site.old) (W.said site.old)) }
-    ensures faults { W.disk_faults site.old ≤ W.disk_faults site.new }
-    ensures failed { IsErrOf result PartFault.Failed → HasRisen (W.disk_faults site.old) (W.disk_faults site.new) }
+) -> Result<Frame, PartFault>
+    requires room { FRAME_BYTES ≤ size }
+    requires head { W.tells → take FRAME_BYTES (bytes_in (W.outside site.old) f) ≡ frame_head (size - FRAME_BYTES) kept }
+    requires size { W.tells → size ≡ length (bytes_in (W.outside site.old) f) }
+    ensures read { W.tells → IfOk result (λ frame. bytes_in (W.outside site.old) f ≡ framed frame.kept frame.body.items) }
     ensures undamaged { IfErr result (λ fault. ¬ IsDamage fault) }
-    ensures other_faults { W.say_faults site.new ≡ W.say_faults site.old }
+    ensures keeps { OnlyReads W.tells (IsErrOf result PartFault.Failed) (W.outside site.old) (W.outside site.new) }
 {
-    let mut file = vec![in alloc; 0u8; size as usize]?;
-    let count = site.fetch(f, 0, &mut file)?;
-    file.truncate(count);
-    Ok(file)
+    let mut body = vec![in alloc; 0u8; (size - FRAME_BYTES as u64) as usize]?;
+    let count = site.fetch(f, FRAME_BYTES as u64, &mut body)?;
+    body.truncate(count);
+    Ok(Frame { kept, body })
 }
 
-// The rows of the part that has this file.
+// The rows of the part with this body, in a frame that keeps this hash.
 #[tactic(auto, unfolding(crate::specs::Parts::part_file))]
-fn part_rows(alloc: Global, file: &[u8], kinds: &Kinds) -> Result<Block, PartFault>
-    requires some { 1 ≤ length kinds.now }
-    requires most { length kinds.now ≤ 64 }
-    requires plain { All IsPlain kinds.now }
-    ensures read { IfOk result (λ rows. file.now ≡ part_file kinds.now rows) }
+fn framed_rows(alloc: Global, kept: u64, body: &[u8], kinds: &Kinds) -> Result<Block, PartFault>
+    requires columns { AreColumns kinds.now }
+    ensures read { IfOk result (λ rows. framed kept body.now ≡ part_file kinds.now rows) }
     ensures kinds { IfOk result (λ rows. AllAreOf kinds.now rows) }
-    ensures hash { (kept found : ℕ) → IsErrOf result (PartFault.Hash kept found) → HashDiffers kept found file.now }
-    ensures shape { IsErrOf result PartFault.Shape → IsShapeless kinds.now file.now }
+    ensures hash { (old found : ℕ) → IsErrOf result (PartFault.Hash old found) → HashDiffers old found (framed kept body.now) }
+    ensures right { IsErrOf result PartFault.Shape → framed kept body.now ≡ part_frame body.now }
+    ensures shape { IsErrOf result PartFault.Shape → (rows : List (List Value)) → AllAreOf kinds.now rows → body.now ≢ part_body kinds.now rows }
     ensures err { IfErr result (λ fault. fault ≢ PartFault.Failed) }
 {
-    let body = frame_body(file)?;
-    match body_rows(alloc, body, kinds)? {
-        Some(rows) => Ok(rows),
-        None => Err(PartFault::Shape),
-    }
-}
-
-// The body in a part's file, where the frame fits and keeps the body's hash.
-fn frame_body(file: &[u8]) -> Result<&[u8], PartFault>
-    ensures body { IfOk result (λ body. file.now ≡ part_frame body.now) }
-    ensures hash { (kept found : ℕ) → IsErrOf result (PartFault.Hash kept found) → HashDiffers kept found file.now }
-    ensures shape { IsErrOf result PartFault.Shape → (kept : ℕ) (body : List ℕ) → file.now ≢ framed kept body }
-    ensures damage { IfErr result IsDamage }
-{
-    let Some((kept, body)) = split_frame(file) else {
-        return Err(PartFault::Shape);
-    };
     let found = body_hash(body);
     if kept != found {
         return Err(PartFault::Hash { kept, found });
     }
-    Ok(body)
-}
-
-// The hash that a part's file keeps, and its body, where the frame fits.
-fn split_frame(file: &[u8]) -> Option<(u64, &[u8])>
-    ensures some { IfSome result (λ x. file.now ≡ framed x.0 x.1.now) }
-    ensures none { IsNone result → (kept : ℕ) (body : List ℕ) → file.now ≢ framed kept body }
-{
-    let rest = file.strip_prefix(&MARK)?;
-    let (size, rest) = split_number(rest)?;
-    let (kept, body) = split_number(rest)?;
-    if size != body.len() as u64 {
-        return None;
+    match body_rows(alloc, body, kinds)? {
+        Some(rows) => Ok(rows),
+        None => Err(PartFault::Shape),
     }
-    Some((kept, body))
 }
 
 // The number that the first 8 bytes spell, and the bytes behind them.

@@ -1,3 +1,4 @@
+pub mod ArrivalLemmas
 pub mod BlockLemmas
 pub mod FeedLemmas
 pub mod HeldLemmas

@@ -12,7 +12,9 @@ use Rattle.chv_block.specs.declared.squasher.Sizes.{Sizes}
 use Rattle.chv_catalog.specs.Schemas.{kinds_of, names_of, place_of}
 use Rattle.chv_catalog.specs.declared.table_def.TableDef.{TableDef}
 use Rattle.chv_define.specs.Definitions.{refuse_if, and_then, or_refuse}
-use Rattle.chv_part.specs.Books.{Names, MAX_ROWS}
+use Rattle.chv_part.specs.Books.{MAX_ROWS}
+use Rattle.chv_part.specs.Forms.{form_of}
+use Rattle.chv_part.specs.Naming.{Names}
 use Rattle.chv_types.specs.declared.kind.Kind.{Kind}
 use Rattle.chv_types.specs.declared.value.Value.{Value}
 use Rattle.chv_plan.proofs.HeldLemmas.{held-tables, held-count}
@@ -49,12 +51,12 @@ pub sizes_refused_for : (table : ℕ) (def : TableDef) (listed : Option (List (L
     → filled_places def.columns listed ≡ Ok places → sizes_for settings ≡ Err refusal → planned_for table def listed settings rows ≡ Err refusal
 sizes_refused_for table def listed settings rows places refusal filled refused = planned_for-behind table def listed settings rows places filled ∙ rw refused refl
 
--- rows that are written bring their blocks, and what is held is their entries
+-- rows that are written bring their blocks, and what is held is how they arrive
 pub Brings-blocks : (table : ℕ) (def : TableDef) (listed : Option (List (List ℕ))) (settings : Settings) (rows lists : List (List Literal)) (places filled : List ℕ) (kinds : List Kind) (sizes : Sizes)
     (written : List (List Value)) (blocks : List (List (List Value))) (held : List Held)
     → filled_places def.columns listed ≡ Ok places → sizes_for settings ≡ Ok sizes → is_long settings.token ≡ false → 1 ≤ length rows → length rows ≤ MAX_ROWS
     → kinds ≡ kinds_of def → filled ≡ places → lists ≡ rows → rows_for kinds filled lists ≡ Ok written → blocks ≡ blocks_of sizes (sized_rows kinds written)
-    → AreBlocks kinds (length lists) blocks → (1 ≤ length lists → 1 ≤ length blocks) → HoldsAll table kinds def.key settings.token 0 blocks held
+    → AreBlocks kinds (length lists) blocks → (1 ≤ length lists → 1 ≤ length blocks) → HoldsAll table (form_of def) settings.token 0 blocks held
     → Brings table def listed settings rows held
 Brings-blocks table def listed settings rows lists places filled kinds sizes written blocks held checked sized short some most kinds_are filled_are lists_are read is each there holds =
     let few : nat_lt MAX_ROWS (length rows) ≡ false = search (rules, tests) in
@@ -66,7 +68,7 @@ Brings-blocks table def listed settings rows lists places filled kinds sizes wri
       some = there (omega (arith, some, count));
       each = AreBlocks-more (kinds_of def) (length lists) MAX_ROWS blocks (omega (arith, most, count)) (rw kinds_are at each);
       short = short;
-      holds = rw kinds_are at holds;
+      holds = holds;
     }
 
 -- the table at a place, and its number
@@ -97,15 +99,15 @@ most-255 : (n : ℕ) → nat_lt 255 n ≡ false → n ≤ 255
 most-255 n short = grind (arith, nat_tests)
 
 -- a block of an insert goes by what names it
-named : (kinds : List Kind) (token : Option (List ℕ)) (number : ℕ) (block : List (List Value)) → is_long token ≡ false → number < 2 ^ 20 → Names kinds block (source_of kinds token number block)
+pub named : (kinds : List Kind) (token : Option (List ℕ)) (number : ℕ) (block : List (List Value)) → is_long token ≡ false → number < 2 ^ 20 → Names kinds block (source_of kinds token number block)
 named kinds None number block short within = refl
 named kinds (Some []) number block short within = refl
 named kinds (Some (byte ∷ token)) number block short within = (omega arith, most-255 (length (byte ∷ token)) short, within)
 
--- what is held of blocks is that of their deliveries, each an entry of the table
+-- what is held of blocks is that of their deliveries, each an arrival in the table
 delivers_all : (tables : List TableDef) (number : ℕ) (def : TableDef) (token : Option (List ℕ)) (from most : ℕ) (blocks : List (List (List Value))) (held : List Held)
     → slice_get tables (number - 1) ≡ Some def → 1 ≤ number → is_long token ≡ false → from + most ≤ MAX_ROWS → AreBlocks (kinds_of def) most blocks
-    → HoldsAll number (kinds_of def) def.key token from blocks held → DeliversAll tables held (deliveries_of number def token from blocks)
+    → HoldsAll number (form_of def) token from blocks held → DeliversAll tables held (deliveries_of number def token from blocks)
 delivers_all tables number def token from most [] [] stands first short room are holds = tt
 delivers_all tables number def token from most [] (one ∷ held) stands first short room are holds = holds
 delivers_all tables number def token from most (block ∷ blocks) [] stands first short room are holds = holds
@@ -117,13 +119,12 @@ delivers_all tables number def token from most (block ∷ blocks) (one ∷ held)
     table = holds.0.table_is;
     lawful =
         record {
-          source = source_of (kinds_of def) token from block;
-          block = block;
           kinds_fit = are.0;
           some = are.1;
           most = omega (arith, are.2, room);
           named = named (kinds_of def) token from block short (omega (arith, are.1, are.2, room));
-          is = refl;
+          id_is = refl;
+          rows_are = refl;
         };
     id = holds.0.id;
     rows = holds.0.rows;
@@ -132,7 +133,7 @@ delivers_all tables number def token from most (block ∷ blocks) (one ∷ held)
   delivers_all tables number def token (from + 1) (most - length block) blocks held stands first short (omega (arith, are.1, are.2, room)) are.3 holds.1,
 )
 
--- the blocks that are brought are entries of their table
+-- the blocks that are brought arrive in their table
 pub delivered : (tables : List TableDef) (columns : Option (List (List ℕ))) (settings : Settings) (rows : List (List Literal)) (number : ℕ) (def : TableDef) (held : List Held) (wanted : Result (List Delivery) Refusal)
     → slice_get tables (number - 1) ≡ Some def → 1 ≤ number → wanted ≡ planned_for number def columns settings rows → Brings number def columns settings rows held
     → (plan : List Delivery) × (wanted ≡ Ok plan) × DeliversAll tables held plan
@@ -145,11 +146,11 @@ delivered tables columns settings rows number def held wanted stands first is br
 -- what is brought is for one table
 pub one_table-Brings : (table : ℕ) (def : TableDef) (listed : Option (List (List ℕ))) (settings : Settings) (rows : List (List Literal)) (held : List Held) → Brings table def listed settings rows held
     → (number : ℕ) × All (λ (delivery : Held). delivery.table ≡ number) held
-one_table-Brings table def listed settings rows held brings = (table, held-tables table (kinds_of def) def.key settings.token 0 brings.blocks held brings.holds)
+one_table-Brings table def listed settings rows held brings = (table, held-tables table (form_of def) settings.token 0 brings.blocks held brings.holds)
 
 -- and has one delivery at least
 pub count-Brings : (table : ℕ) (def : TableDef) (listed : Option (List (List ℕ))) (settings : Settings) (rows : List (List Literal)) (held : List Held) → Brings table def listed settings rows held
     → (1 ≤ length held) × (length held ≤ MAX_ROWS)
 count-Brings table def listed settings rows held brings =
-    let count = held-count table (kinds_of def) def.key settings.token 0 brings.blocks held brings.holds in
+    let count = held-count table (form_of def) settings.token 0 brings.blocks held brings.holds in
     (omega (arith, count, brings.some), omega (arith, count, length-AreBlocks (kinds_of def) MAX_ROWS brings.blocks brings.each))

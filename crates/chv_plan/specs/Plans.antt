@@ -13,7 +13,8 @@ use Rattle.chv_block.specs.Blocks.{Sized, blocks_of}
 use Rattle.chv_block.specs.Spellings.{row_spelling, block_spelling}
 use Rattle.chv_block.specs.declared.squasher.Sizes.{Sizes}
 use Rattle.chv_define.specs.Definitions.{refuse_if, and_then, or_refuse, has_repeat, is_unknown, is_state, number_of, places_of}
-use Rattle.chv_part.specs.Books.{Entry, entry_of, IsEntry, MAX_ROWS}
+use Rattle.chv_part.specs.Books.{MAX_ROWS}
+use Rattle.chv_part.specs.Forms.{form_of}
 use Rattle.chv_part.specs.Parts.{part_file}
 use Rattle.chv_sip.specs.BlockIds.{SourceKey, Content, Token}
 use Rattle.chv_types.specs.Values.{plain_default}
@@ -21,13 +22,14 @@ use Rattle.chv_types.specs.declared.kind.Kind.{Kind}
 use Rattle.chv_types.specs.declared.kind.Kind.TheVariants as kind
 use Rattle.chv_types.specs.declared.value.Value.{Value}
 use Rattle.chv_types.specs.declared.value.Value.TheVariants.{State}
+use Rattle.chv_plan.specs.Arrivals.{Arrival, arrival_of, IsArrival}
 use Rattle.chv_plan.specs.Literals.{literal_value}
 use Rattle.chv_plan.specs.declared.delivery.Delivery.{Delivery as Held}
 
 -- one block to one table
 pub record Delivery : Type 0 where
   pub table : ℕ
-  pub entry : Entry
+  pub entry : Arrival
 
 -- a number of a setting, from the least to the most that it may be, or its default
 abbrev pub setting_in : ℕ → ℕ → ℕ → Option (List ℕ) → Result ℕ Refusal
@@ -58,7 +60,7 @@ source_of kinds (Some (byte ∷ token)) number block = Token (byte ∷ token) nu
 abbrev pub deliveries_of : ℕ → TableDef → Option (List ℕ) → ℕ → List (List (List Value)) → List Delivery
 deliveries_of table def token number [] = []
 deliveries_of table def token number (block ∷ blocks) =
-    record { table = table; entry = entry_of def.key (source_of (kinds_of def) token number block) block } ∷ deliveries_of table def token (number + 1) blocks
+    record { table = table; entry = arrival_of (form_of def) (source_of (kinds_of def) token number block) block } ∷ deliveries_of table def token (number + 1) blocks
 
 -- rows, each with the number of its bytes
 abbrev pub sized_rows : List Kind → List (List Value) → List Sized
@@ -145,7 +147,7 @@ pub record Delivers (tables : List TableDef) (held : Held) (delivery : Delivery)
   pub stands : slice_get tables (delivery.table - 1) ≡ Some def
   pub numbered : 1 ≤ delivery.table
   pub table : held.table ≡ delivery.table
-  pub lawful : IsEntry (kinds_of def) def.key delivery.entry
+  pub lawful : IsArrival (form_of def) delivery.entry
   pub id : held.id ≡ delivery.entry.id
   pub rows : held.rows ≡ length delivery.entry.rows
   pub encoded : held.encoded ≡ part_file (kinds_of def) delivery.entry.rows

@@ -6,10 +6,12 @@ ghost use Rattle.chv_ast.specs.Formed.{WellFormed};
 ghost use Rattle.chv_block.specs.Blocks.{and_block, blocks_of};
 ghost use Rattle.chv_block.specs.Spellings.{AllAreOf, block_spelling};
 ghost use Rattle.chv_catalog.specs.Schemas.{kinds_of};
-ghost use Rattle.chv_part.specs.Books.{MAX_ROWS, entry_of};
+ghost use Rattle.chv_part.specs.Books.{MAX_ROWS};
+ghost use Rattle.chv_part.specs.Forms.{form_of};
 ghost use Rattle.chv_sip.specs.BlockIds.{id_of, content_key, source_id};
 ghost use Rattle.chv_types.specs.Values.{IsPlain};
 ghost use Rattle.chv_types.specs.declared.value.Value.{Value as SomeValue};
+ghost use Rattle.chv_plan.specs.Arrivals.{arrival_of};
 ghost use Rattle.chv_plan.specs.Blocks.{Holds, HoldsAll, Brings, AreBlocks};
 ghost use Rattle.chv_plan.specs.Places.{ArePlaces};
 ghost use Rattle.chv_plan.specs.Plans.{Delivery as Planned, DeliversAll, planned, planned_for, rows_for, sized_rows, is_long, source_of};
@@ -24,7 +26,7 @@ use chv_catalog::{Schema, TableDef};
 use chv_merge::normal;
 use chv_part::encode_part;
 use chv_sip::{BlockId, id_of_content, id_of_token};
-use chv_types::{Block, Kind, Kinds, Places};
+use chv_types::{Block, Kind, Kinds};
 use std::alloc::{AllocError, Global};
 
 // The most rows that an INSERT has.
@@ -87,7 +89,7 @@ pub fn plan_for(
     let kinds = def.kinds(alloc)?;
     let blocks = blocks_for(alloc, kinds.as_slice(), &places, sizes, rows.as_slice())?;
     Ok(Plan {
-        deliveries: deliveries_of(alloc, table, &kinds, &def.key, &settings.token, blocks)?,
+        deliveries: deliveries_of(alloc, table, def, &kinds, &settings.token, blocks)?,
     })
 }
 
@@ -130,47 +132,49 @@ fn put_block(blocks: &mut Vec<Block>, block: Option<Block>) -> Result<(), AllocE
     Ok(())
 }
 
-// Blocks as deliveries to the table of a number, in order.
+// Blocks as deliveries to the table of a number and this definition, in order.
 fn deliveries_of(
     alloc: Global,
     table: u32,
+    def: &TableDef,
     kinds: &Kinds,
-    key: &Places,
     token: &Option<Quoted>,
     blocks: Vec<Block>,
 ) -> Result<Seq<Delivery>, AllocError>
+    requires kinds { kinds.now ≡ kinds_of def.now }
     requires plain { All IsPlain kinds.now }
     requires blocks { All (AllAreOf kinds.now) blocks.items }
     requires few { length blocks.items ≤ MAX_ROWS }
     requires token { is_long token.now ≡ false }
-    ensures { IfOk result (λ held. HoldsAll table kinds.now key.now token.now 0 blocks.items held) }
+    ensures { IfOk result (λ held. HoldsAll table (form_of def.now) token.now 0 blocks.items held) }
 {
     let mut deliveries = Vec::with_capacity(alloc, blocks.len())?;
     let mut number = 0;
     for block in blocks {
-        deliveries.push(delivery_of(alloc, table, kinds, key, token, number, block)?)?;
+        deliveries.push(delivery_of(alloc, table, def, kinds, token, number, block)?)?;
         number += 1;
     }
     Ok(Seq::of_items(deliveries))
 }
 
-// A block of a number in its insert as a delivery to a table.
+// A block of a number in its insert as a delivery to the table of a number and this definition.
 fn delivery_of(
     alloc: Global,
     table: u32,
+    def: &TableDef,
     kinds: &Kinds,
-    key: &Places,
     token: &Option<Quoted>,
     number: u32,
     block: Block,
 ) -> Result<Delivery, AllocError>
+    requires kinds { kinds.now ≡ kinds_of def.now }
     requires plain { All IsPlain kinds.now }
     requires rows { AllAreOf kinds.now block }
     requires token { is_long token.now ≡ false }
-    ensures { IfOk result (λ held. Holds table kinds.now (entry_of key.now (source_of kinds.now token.now number block) block) held) }
+    ensures { IfOk result (λ held. Holds table (kinds_of def.now) (arrival_of (form_of def.now) (source_of (kinds_of def.now) token.now number block) block) held) }
 {
     let id = block_id(alloc, kinds, token, number, &block)?;
-    let rows = normal(key, block)?;
+    let rows = normal(&def.key, block)?;
     // Whether the block is skipped is decided as it is delivered, and no delivery takes memory.
     let encoded = encode_part(alloc, kinds, &rows)?;
     Ok(Delivery {

@@ -2,6 +2,7 @@ pub mod Acts
 pub mod Bytes
 pub mod Clock
 pub mod Crashes
+pub mod Effects
 pub mod Ids
 pub mod Images
 pub mod Moments

@@ -2,7 +2,9 @@ pub mod CallLog
 pub mod Calls
 pub mod Crash
 pub mod During
+pub mod Effects
 pub mod Faults
+pub mod FileIds
 pub mod FileStore
 pub mod Files
 pub mod Images
@@ -11,3 +13,4 @@ pub mod MemFaults
 pub mod MemFile
 pub mod MemSite
 pub mod MemSource
+pub mod Outside

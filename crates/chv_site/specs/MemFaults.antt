@@ -1,5 +1,5 @@
 -- Which calls of a site in memory fail, and its counts of faults.
-use Rattle.std.specs.Prelude.{ℕ, ◌≡◌, ◌⊎◌, ◌≤◌, List, Option, Result, IsErr}
+use Rattle.std.specs.Prelude.{ℕ, ◌≡◌, ◌⊎◌, ◌≤◌, List, Option, Result, IsErr, OnOk}
 use Rattle.std.specs.declared.option.Option.TheVariants.{None, Some}
 use Rattle.std.specs.List.{Contains}
 use Rattle.chv_site.specs.Faults.{raised, HasRisen}
@@ -34,10 +34,11 @@ say_failed faults = record faults { say = raised faults.say }
 abbrev pub lacking : MemFaults → MemFaults
 lacking faults = record faults { lacked = raised faults.lacked }
 
--- a call fails exactly where it is told to, or where it finds no memory
+-- a call fails exactly where it is told to, or where it finds no memory, which an Ok never did
 pub record IsAsTold {T E : Type 0} (old new : MemFaults) (result : Result T E) : Type 0 where
   pub told : IsNextFailing old → IsErr result
   pub only : IsErr result → IsNextFailing old ⊎ HasRisen old.lacked new.lacked
+  pub ok : OnOk result (new.lacked ≡ old.lacked)
   pub counted : new.calls ≡ raised old.calls
   pub fails : new.fails ≡ old.fails
   pub stop : new.stop ≡ old.stop

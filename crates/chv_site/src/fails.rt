@@ -1,5 +1,5 @@
 // Which calls of a fake are to fail.
-ghost use Rattle.std.specs.Prelude.{◌≡◌, ◌++◌, ◌↔◌, [], ◌∷◌, length, slice_get, IfOk, OnOk, OnErr, IsTrue};
+ghost use Rattle.std.specs.Prelude.{◌≡◌, ◌++◌, ◌↔◌, [], ◌∷◌, length, slice_get, OnOk, OnErr, IsTrue};
 ghost use Rattle.std.specs.Option.{option_copied};
 ghost use Rattle.std.specs.List.{Contains};
 
@@ -61,14 +61,6 @@ impl Fails {
     {
         self.calls.push(call)?;
         Ok(())
-    }
-
-    /// The same list once more.
-    pub fn copy(&self) -> Result<Fails, AllocError>
-        ensures { IfOk result (λ made. made ≡ self.now) }
-    {
-        let calls = self.calls.clone()?;
-        Ok(Fails { calls })
     }
 
     /// The numbers as a vector.

@@ -76,6 +76,13 @@ impl MemFaults {
         Failed
     }
 
+    /// Notes that a call found no memory.
+    pub fn lack(&mut self)
+        ensures { self.new ≡ lacking self.old }
+    {
+        self.lacked = self.lacked.saturating_add(1);
+    }
+
     /// Begins a call on files, which fails where it is told to.
     pub fn begin_on_files(&mut self) -> Result<(), Failed>
         ensures failing { IsErr result ↔ IsNextFailing self.old }
@@ -115,7 +122,7 @@ impl MemFaults {
         match done {
             Ok(()) => Ok(()),
             Err(_) => {
-                self.lacked = self.lacked.saturating_add(1);
+                self.lack();
                 Err(self.fail_on_files())
             }
         }
@@ -132,7 +139,7 @@ impl MemFaults {
         match done {
             Ok(()) => Ok(()),
             Err(_) => {
-                self.lacked = self.lacked.saturating_add(1);
+                self.lack();
                 Err(self.fail_in_say())
             }
         }

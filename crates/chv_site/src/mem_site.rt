@@ -17,16 +17,16 @@ pub struct MemSite {
 }
 
 impl MemSite {
-    ghost use Rattle.std.specs.Prelude.{◌≡◌, [], ◌∷◌, IsErr, IfOk, OnOk};
+    ghost use Rattle.std.specs.Prelude.{◌≡◌, [], ◌∷◌, IsErr, IfOk, OnOk, OnErr};
     ghost use Rattle.std.specs.declared.option.Option.TheVariants.{Some};
     ghost use Rattle.chv_site.specs.declared.file_id.FileId.{FileId};
     ghost use Rattle.chv_site.specs.declared.call.Call.TheVariants.{OnFile};
-    ghost use Rattle.chv_site.specs.Faults.{IsCounted};
+    ghost use Rattle.chv_site.specs.Faults.{HasRisen, CountsDisk};
     ghost use Rattle.chv_site.specs.MemFaults.{uncounted, IsAsTold};
     ghost use Rattle.chv_site.specs.Images.{IsImage};
     ghost use Rattle.chv_site.specs.Crash.{IsRestored};
     ghost use Rattle.chv_site.specs.Calls.{kept_after, state_after, bytes_after, text_after, IsPossible, IsEnded};
-    ghost use Rattle.chv_site.specs.MemSite.{calls_of, faults_of};
+    ghost use Rattle.chv_site.specs.MemSite.{calls_of, faults_of, outside_of, IsBegun};
 
     /// A site with no files, of which nothing was said. The calls with the numbers of `fails` fail.
     pub fn new(alloc: Global, fails: Fails) -> MemSite
@@ -89,13 +89,15 @@ impl MemSite {
         requires act { IsPossible act (state_after (calls_of self.old) f) }
         requires begun { IsPossible begun (state_after (calls_of self.old) f) }
         ensures acted { OnOk result (calls_of self.new ≡ OnFile f act ∷ calls_of self.old) }
+        ensures begun { OnErr result (IsBegun f begun self.old self.new) }
         ensures ended { IsEnded f act begun (calls_of self.old) (calls_of self.new) }
-        ensures failed { IsCounted (faults_of self.old).disk (faults_of self.new).disk result }
-        ensures other_faults { (faults_of self.new).say ≡ (faults_of self.old).say }
+        ensures counts { CountsDisk (IsErr result) (outside_of self.old) (outside_of self.new) }
         ensures told { IsAsTold (faults_of self.old) (faults_of self.new) result }
     {
         if let Err(failed) = self.faults.begin_on_files() {
-            let _ = self.log.act(f, begun);
+            if self.log.act(f, begun).is_err() {
+                self.faults.lack();
+            }
             return Err(failed);
         }
         let done = self.log.act(f, act);
@@ -106,38 +108,32 @@ impl MemSite {
     fn lack(&mut self) -> Result<(), Failed>
         ensures fails { IsErr result }
         ensures calls { calls_of self.new ≡ calls_of self.old }
-        ensures failed { IsCounted (faults_of self.old).disk (faults_of self.new).disk result }
-        ensures other_faults { (faults_of self.new).say ≡ (faults_of self.old).say }
+        ensures lacked { HasRisen (faults_of self.old).lacked (faults_of self.new).lacked }
+        ensures counts { CountsDisk (IsErr result) (outside_of self.old) (outside_of self.new) }
         ensures told { IsAsTold (faults_of self.old) (faults_of self.new) result }
     {
-        self.faults.begin_on_files()?;
+        if let Err(failed) = self.faults.begin_on_files() {
+            self.faults.lack();
+            return Err(failed);
+        }
         self.faults.end_on_files(Err(AllocError))
     }
 }
 
 impl Site for MemSite {
-    ghost use Rattle.std.specs.Prelude.{◌≡◌, ◌++◌, ◌+◌, ◌-◌, ◌^◌, ◌<◌, ◌≤◌, length, take, drop, min, IfOk, OnOk, OnErr};
-    ghost use Rattle.chv_site.specs.Faults.{IsCounted};
+    ghost use Rattle.std.specs.Prelude.{◌≡◌, ◌+◌, ◌-◌, ◌^◌, ◌<◌, ◌≤◌, length, take, drop, min, IfOk, OnOk, OnErr, IsErr};
+    ghost use Rattle.chv_site.specs.declared.call.Act.TheVariants.{BeginPut, BeginCut};
     ghost use Rattle.chv_site.specs.MemFaults.{IsAsTold};
-    ghost use Rattle.chv_site.specs.Files.{settled, over_written, IsPut, IsCut, KeepsFiles, KeepsOthers, IsFrontOf};
-    ghost use Rattle.chv_site.specs.Images.{IsLeft, IsLeftSaying};
+    ghost use Rattle.chv_site.specs.Files.{settled, over_written, IsPut, IsCut};
+    ghost use Rattle.chv_site.specs.Images.{IsLeft};
     ghost use Rattle.chv_site.specs.During.{During};
+    ghost use Rattle.chv_site.specs.Effects.{OnlyReads, ChangesOnly, Says};
     ghost use Rattle.chv_site.specs.Laws.{left_now, left_last, lengths_after};
-    ghost use Rattle.chv_site.specs.MemSite.{calls_of, files_of, said_by, moment_of, left_by, faults_of, disk_faults_of, say_faults_of};
+    ghost use Rattle.chv_site.specs.MemSite.{calls_of, files_of, faults_of, outside_of, IsBegun};
 
     ghost tells = { Unit {0} };
 
-    ghost state = { files_of };
-
-    ghost said = { said_by };
-
-    ghost moment = { moment_of };
-
-    ghost left_since = { left_by };
-
-    ghost disk_faults = { disk_faults_of };
-
-    ghost say_faults = { say_faults_of };
+    ghost outside = { outside_of };
 
     ghost counts_now = { λ m t image le is. left_now (calls_of m) t image is };
 
@@ -147,11 +143,7 @@ impl Site for MemSite {
 
     fn size(&mut self, f: FileId) -> Result<u64, Failed>
         ensures size { IfOk result (λ n. n ≡ length (files_of self.old f).bytes) }
-        ensures files { KeepsFiles (files_of self.old) (files_of self.new) }
-        ensures said { said_by self.new ≡ said_by self.old }
-        ensures during { During moment_of left_by self.old self.new (IsLeft (files_of self.old) (said_by self.old)) }
-        ensures failed { IsCounted (disk_faults_of self.old) (disk_faults_of self.new) result }
-        ensures other_faults { say_faults_of self.new ≡ say_faults_of self.old }
+        ensures keeps { OnlyReads (Unit {0}) (IsErr result) (outside_of self.old) (outside_of self.new) }
         ensures told { IsAsTold (faults_of self.old) (faults_of self.new) result }
     {
         self.faults.begin_on_files()?;
@@ -162,11 +154,7 @@ impl Site for MemSite {
         ensures within { IfOk result (λ n. n ≤ length buf.old) }
         ensures count { IfOk result (λ n. n ≡ min (length buf.old) (length (files_of self.old f).bytes - at)) }
         ensures bytes { IfOk result (λ n. take n buf.new ≡ take n (drop at (files_of self.old f).bytes)) }
-        ensures files { KeepsFiles (files_of self.old) (files_of self.new) }
-        ensures said { said_by self.new ≡ said_by self.old }
-        ensures during { During moment_of left_by self.old self.new (IsLeft (files_of self.old) (said_by self.old)) }
-        ensures failed { IsCounted (disk_faults_of self.old) (disk_faults_of self.new) result }
-        ensures other_faults { say_faults_of self.new ≡ say_faults_of self.old }
+        ensures keeps { OnlyReads (Unit {0}) (IsErr result) (outside_of self.old) (outside_of self.new) }
         ensures told { IsAsTold (faults_of self.old) (faults_of self.new) result }
     {
         self.faults.begin_on_files()?;
@@ -180,11 +168,9 @@ impl Site for MemSite {
         requires room { at + length bytes.now < 2 ^ 64 }
         ensures put { OnOk result ((files_of self.new f).bytes ≡ over_written at bytes.now (files_of self.old f).bytes) }
         ensures torn { IsPut at (length bytes.now) (files_of self.old f) (files_of self.new f) }
-        ensures others { KeepsOthers f (files_of self.old) (files_of self.new) }
-        ensures said { said_by self.new ≡ said_by self.old }
-        ensures during { During moment_of left_by self.old self.new (IsLeft (files_of self.new) (said_by self.old)) }
-        ensures failed { IsCounted (disk_faults_of self.old) (disk_faults_of self.new) result }
-        ensures other_faults { say_faults_of self.new ≡ say_faults_of self.old }
+        ensures during { During (outside_of self.old) (outside_of self.new) (IsLeft (files_of self.new) (outside_of self.old).said) }
+        ensures keeps { ChangesOnly (Unit {0}) (IsErr result) f (outside_of self.old) (outside_of self.new) }
+        ensures begun { OnErr result (IsBegun f (BeginPut at (length bytes.now)) self.old self.new) }
         ensures told { IsAsTold (faults_of self.old) (faults_of self.new) result }
     {
         let at = at as usize;
@@ -199,11 +185,9 @@ impl Site for MemSite {
         requires { len ≤ length (files_of self.old f).bytes }
         ensures cut { OnOk result ((files_of self.new f).bytes ≡ take len (files_of self.old f).bytes) }
         ensures torn { IsCut len (files_of self.old f) (files_of self.new f) }
-        ensures others { KeepsOthers f (files_of self.old) (files_of self.new) }
-        ensures said { said_by self.new ≡ said_by self.old }
-        ensures during { During moment_of left_by self.old self.new (IsLeft (files_of self.new) (said_by self.old)) }
-        ensures failed { IsCounted (disk_faults_of self.old) (disk_faults_of self.new) result }
-        ensures other_faults { say_faults_of self.new ≡ say_faults_of self.old }
+        ensures during { During (outside_of self.old) (outside_of self.new) (IsLeft (files_of self.new) (outside_of self.old).said) }
+        ensures keeps { ChangesOnly (Unit {0}) (IsErr result) f (outside_of self.old) (outside_of self.new) }
+        ensures begun { OnErr result (IsBegun f (BeginCut len) self.old self.new) }
         ensures told { IsAsTold (faults_of self.old) (faults_of self.new) result }
     {
         let len = len as usize;
@@ -213,11 +197,8 @@ impl Site for MemSite {
     fn sync(&mut self, f: FileId) -> Result<(), Failed>
         ensures durable { OnOk result (files_of self.new f ≡ settled (files_of self.old f).bytes) }
         ensures err { OnErr result (files_of self.new f ≡ files_of self.old f) }
-        ensures others { KeepsOthers f (files_of self.old) (files_of self.new) }
-        ensures said { said_by self.new ≡ said_by self.old }
-        ensures during { During moment_of left_by self.old self.new (IsLeft (files_of self.old) (said_by self.old)) }
-        ensures failed { IsCounted (disk_faults_of self.old) (disk_faults_of self.new) result }
-        ensures other_faults { say_faults_of self.new ≡ say_faults_of self.old }
+        ensures during { During (outside_of self.old) (outside_of self.new) (IsLeft (files_of self.old) (outside_of self.old).said) }
+        ensures keeps { ChangesOnly (Unit {0}) (IsErr result) f (outside_of self.old) (outside_of self.new) }
         ensures told { IsAsTold (faults_of self.old) (faults_of self.new) result }
     {
         self.faults.begin_on_files()?;
@@ -228,23 +209,16 @@ impl Site for MemSite {
     fn discard(&mut self, f: FileId) -> Result<(), Failed>
         ensures discarded { OnOk result ((files_of self.new f).bytes ≡ take 0 (files_of self.old f).bytes) }
         ensures torn { IsCut 0 (files_of self.old f) (files_of self.new f) }
-        ensures others { KeepsOthers f (files_of self.old) (files_of self.new) }
-        ensures said { said_by self.new ≡ said_by self.old }
-        ensures during { During moment_of left_by self.old self.new (IsLeft (files_of self.new) (said_by self.old)) }
-        ensures failed { IsCounted (disk_faults_of self.old) (disk_faults_of self.new) result }
-        ensures other_faults { say_faults_of self.new ≡ say_faults_of self.old }
+        ensures during { During (outside_of self.old) (outside_of self.new) (IsLeft (files_of self.new) (outside_of self.old).said) }
+        ensures keeps { ChangesOnly (Unit {0}) (IsErr result) f (outside_of self.old) (outside_of self.new) }
+        ensures begun { OnErr result (IsBegun f (BeginCut 0) self.old self.new) }
         ensures told { IsAsTold (faults_of self.old) (faults_of self.new) result }
     {
         self.cut(f, 0)
     }
 
     fn say(&mut self, bytes: &[u8]) -> Result<(), Failed>
-        ensures said { OnOk result (said_by self.new ≡ said_by self.old ++ bytes.now) }
-        ensures err { OnErr result (IsFrontOf bytes.now (said_by self.old) (said_by self.new)) }
-        ensures files { KeepsFiles (files_of self.old) (files_of self.new) }
-        ensures during { During moment_of left_by self.old self.new (IsLeftSaying (files_of self.old) (said_by self.old) bytes.now) }
-        ensures failed { IsCounted (say_faults_of self.old) (say_faults_of self.new) result }
-        ensures other_faults { disk_faults_of self.new ≡ disk_faults_of self.old }
+        ensures says { Says (Unit {0}) bytes.now result (outside_of self.old) (outside_of self.new) }
         ensures told { IsAsTold (faults_of self.old) (faults_of self.new) result }
     {
         self.faults.begin_say()?;

@@ -1,44 +1,38 @@
 -- What a written block makes of its table, and what a crash until then leaves.
-use Rattle.std.proofs.Common.{◌≡◌, ◌≢◌, ◌⊎◌, inl, inr, ℕ, ◌<◌, ◌≤◌, ◌^◌, List, [], ◌∷◌, ◌++◌, length, map, Some, true, false, refl, sym, ap, ap₂, subst, ◌∙◌, arith}
+use Rattle.std.proofs.Common.{◌≡◌, ◌≢◌, ◌⊎◌, inl, inr, ℕ, ◌+◌, ◌<◌, ◌≤◌, ◌^◌, List, [], ◌∷◌, ◌++◌, map, Some, true, false, refl, sym, ap, subst, ◌∙◌, arith}
+use Rattle.std.specs.Bool.{⊤}
 use Rattle.std.specs.List.{All, Contains}
 use Rattle.std.proofs.lemmas.List.{map_push}
 use Rattle.std.proofs.lemmas.List.Elements.{All-push}
 use Rattle.chv_site.specs.declared.file_id.FileId.{FileId}
+use Rattle.chv_site.specs.FileIds.{part_of}
 use Rattle.chv_site.specs.Files.{FileState, settled, KeepsOthers}
 use Rattle.chv_site.specs.Images.{Image, IsFileImage, IsLeft}
 use Rattle.chv_site.specs.During.{During}
+use Rattle.chv_site.specs.Outside.{Outside}
 use Rattle.chv_site.proofs.Images.{settled_image}
 use Rattle.chv_site.proofs.Moments.{weakened, goes_on}
 use Rattle.chv_commit.specs.Commits.{commit_spelling, IsCommit, AreWords}
-use Rattle.chv_commit.specs.Replays.{State, no_state, replayed, added}
+use Rattle.chv_commit.specs.Replays.{State, no_state, replayed}
 use Rattle.chv_commit.specs.declared.commit.Commit.{Commit}
+use Rattle.chv_commit.specs.declared.part_row.PartRow.{PartRow}
 use Rattle.chv_commit.proofs.ReplayLemmas.{replayed-more}
 use Rattle.chv_commit.proofs.TakenLemmas.{taken-add}
 use Rattle.chv_gate.specs.declared.log.Log.{Log}
-use Rattle.chv_gate.specs.Crashes.{IsLeftWith, HasFramesOrMore}
+use Rattle.chv_gate.specs.Crashes.{AsImages, IsLeftWith, Leaves, HasFramesOrMore}
 use Rattle.chv_gate.specs.GateLog.{HasFrames, IsReady, IsPayload, frame_of}
 use Rattle.chv_gate.proofs.CrashLemmas.{ready_image}
 use Rattle.chv_part.specs.Books.{Entry, Book, is_recent, appended, IsLawfulBook}
-use Rattle.chv_part.specs.Parts.{part_file}
+use Rattle.chv_part.specs.Parts.{IsPartFile}
 use Rattle.chv_part.specs.Standing.{Describes, TableStands}
-use Rattle.chv_part.specs.Writing.{OthersLeft}
 use Rattle.chv_part.proofs.BookLemmas.{is_recent-Contains, is_recent-lacks, IsLawfulBook-appended}
 use Rattle.chv_sip.specs.declared.block_id.BlockId.{BlockId}
-use Rattle.chv_table.specs.Tables.{IsWithin, HasRoomFor, HoldsBook, Brings, DeliveryLeft, held_form, held_state, settled_part}
+use Rattle.chv_table.specs.Delivering.{Brings, DeliveryLeft, state_after}
+use Rattle.chv_table.specs.Tables.{IsWithin, HasRoomFor, HoldsCommits, HoldsBook, IsSettledPart, held_form, held_state}
+use Rattle.chv_table.specs.declared.table.Delivered.TheVariants.{Written}
 use Rattle.chv_table.specs.declared.table.Table.{Table}
 use Rattle.chv_table.proofs.EntryLemmas.{commit_of, IsCommit-commit_of, IsPayload-commit_of, Describes-added, IsPart-added}
-use Rattle.chv_table.proofs.TableLemmas.{HoldsBook-sound, HoldsBook-by, IsPart-by, parts_left, book_left, table_left}
-
--- a block that is written: its table holds a book and has room, and its part is the next one
-pub record IsWritten (table : Table) (before : FileId → FileState) (book : Book) (entry : Entry) (id : BlockId) (rows : ℕ) (encoded : List ℕ) (part : FileId) : Type 0 where
-  pub within : IsWithin table
-  pub room : HasRoomFor 1 table
-  pub held : HoldsBook table before book
-  pub brings : Brings table id rows encoded entry
-  pub new : is_recent table.window.size entry.id book ≡ false
-  pub words : AreWords id
-  pub few : rows < 2 ^ 64
-  pub part_is : part ≡ record { table = table.number; part = table.next_part }
+use Rattle.chv_table.proofs.TableLemmas.{AreNumbered, HoldsBook-numbered, HoldsCommits-by, HoldsBook-by, IsPart-by, IsSettledPart-by, parts_left, book_left, table_left}
 
 -- an id that is held is a recent one
 pub recent_held : (table : Table) (files : FileId → FileState) (book : Book) (entry : Entry) (id : BlockId) → HoldsBook table files book → id ≡ entry.id → Contains table.window.ids id
@@ -60,165 +54,190 @@ skipped_left table files said book next image text within held left = record {
   text_left = left.1;
 }
 
+-- a block that is written: its table has room, and its part is the next one
+pub record IsWritten (table : Table) (id : BlockId) (rows : ℕ) (part : FileId) : Type 0 where
+  pub within : IsWithin table
+  pub room : HasRoomFor 1 table
+  pub words : AreWords id
+  pub few : rows < 2 ^ 64
+  pub part_is : part ≡ part_of table.number table.next_part
+
+-- it is an entry that is new in the book of its table
+pub record IsNewEntry (table : Table) (files : FileId → FileState) (book : Book) (entry : Entry) (id : BlockId) (rows : ℕ) (encoded : List ℕ) : Type 0 where
+  pub held : HoldsBook table files book
+  pub brings : Brings table id rows encoded entry
+  pub new : is_recent table.window.size entry.id book ≡ false
+
 -- its table once it is written
 pub record IsNoted (id : BlockId) (rows : ℕ) (log : Log) (old new : Table) : Type 0 where
   pub number : new.number ≡ old.number
   pub form : held_form new ≡ held_form old
   pub log_is : new.log ≡ log
   pub file : log.file ≡ old.log.file
-  pub state : held_state new ≡ added old.window.size old.next_part rows (id ∷ []) (held_state old)
+  pub state : held_state new ≡ state_after Written old rows id
 
-module _ (table : Table) (before : FileId → FileState) (book : Book) (entry : Entry) (id : BlockId) (rows : ℕ) (encoded : List ℕ) (part : FileId)
-    (is : IsWritten table before book entry id rows encoded part) where
-  -- the state behind its commit
-  abbrev state : State
-  state = added table.window.size table.next_part (length entry.rows) (entry.id ∷ []) (held_state table)
+-- an append of these bytes to a log makes it ready behind one payload more
+abbrev pub Appends : List ℕ → Log → Log → FileState → FileState → Type 0
+Appends bytes log end old new =
+    (payloads : List (List ℕ)) (payload : List ℕ) → IsReady log.gate payloads old → IsPayload payload → bytes ≡ frame_of payload → IsReady end.gate (payloads ++ payload ∷ []) new
 
+module _ (table : Table) (id : BlockId) (rows : ℕ) (part : FileId) (is : IsWritten table id rows part) where
+  -- its commit, and the state behind it
   abbrev commit : Commit
-  commit = commit_of table.next_part (length entry.rows) entry.id
+  commit = commit_of table.next_part rows id
 
-  abbrev commits : List Commit
-  commits = is.held.commits ++ commit ∷ []
+  abbrev payload : List ℕ
+  payload = commit_spelling commit
 
-  apart : (p : ℕ) → 8 ≤ p → record { table = table.number; part = p } ≢ table.log.file
+  abbrev state : State
+  state = state_after Written table rows id
+
+  apart : (p : ℕ) → 8 ≤ p → part_of table.number p ≢ table.log.file
   apart p low same = let e : p ≡ 0 = ap (λ (f : FileId). f.part) (same ∙ is.within.log) in omega (arith, low, e)
 
   log_apart : table.log.file ≢ part
   log_apart same = apart table.next_part is.within.first (sym (same ∙ is.part_is))
 
-  old_apart : (p : ℕ) → p < table.next_part → record { table = table.number; part = p } ≢ part
+  old_apart : (p : ℕ) → p < table.next_part → part_of table.number p ≢ part
   old_apart p high same = let e : p ≡ table.next_part = ap (λ (f : FileId). f.part) (same ∙ is.part_is) in omega (arith, high, e)
 
   elsewhere : (f : FileId) → f.table ≢ table.number → f ≢ part
   elsewhere f other same = other (ap (λ (g : FileId). g.table) (same ∙ is.part_is))
 
-  lawful : IsLawfulBook (held_form table) (appended entry book)
-  lawful = IsLawfulBook-appended (held_form table) entry book is.brings.lawful (omega (arith, is.room.in_number, is.held.describes.entries)) is.new is.held.lawful
+  -- the commits of its log, and one more
+  module _ (files : FileId → FileState) (commits : List Commit) (held : HoldsCommits table files commits) where
+    replays : replayed table.window.size no_state (commits ++ commit ∷ []) ≡ Some state
+    replays = replayed-more table.window.size no_state (held_state table) state commits commit held.replays
+        (taken-add table.window.size table.next_part rows (id ∷ []) (held_state table) refl (omega arith) is.room.in_number)
 
-  replays : replayed table.window.size no_state commits ≡ Some state
-  replays = replayed-more table.window.size no_state (held_state table) state is.held.commits commit is.held.holds.replays
-      (taken-add table.window.size table.next_part (length entry.rows) (entry.id ∷ []) (held_state table) refl (omega arith) is.room.in_number)
+    right : All IsCommit (commits ++ commit ∷ [])
+    right = All-push IsCommit commits commit held.right (IsCommit-commit_of table.next_part rows id (omega (arith, is.within.counted, is.room.in_number)) is.few is.words)
 
-  right : All IsCommit commits
-  right = All-push IsCommit is.held.commits commit is.held.holds.right
-      (IsCommit-commit_of table.next_part (length entry.rows) entry.id (omega (arith, is.within.counted, is.room.in_number))
-      (subst (λ (n : ℕ). n < 2 ^ 64) is.brings.rows_are is.few) (subst AreWords is.brings.id_is is.words))
+    payloads : map commit_spelling (commits ++ commit ∷ []) ≡ map commit_spelling commits ++ payload ∷ []
+    payloads = map_push commit_spelling commits commit
 
-  describes : Describes table.window.size state (appended entry book)
-  describes = Describes-added table.window.size table.next_part (length entry.rows) entry (held_state table) book is.held.describes
+    -- its log is ready still once its part is written
+    ready : (between : FileId → FileState) → KeepsOthers part files between → IsReady table.log.gate (map commit_spelling commits) (between table.log.file)
+    ready between kept = subst (λ (s : FileState). IsReady table.log.gate (map commit_spelling commits) s) (sym (kept table.log.file log_apart)) held.log
 
-  payloads : map commit_spelling commits ≡ map commit_spelling is.held.commits ++ commit_spelling commit ∷ []
-  payloads = map_push commit_spelling is.held.commits commit
+    -- once its commit is appended, the table holds it too
+    pub written_commits : (between after : FileId → FileState) (new : Table) (log : Log) (bytes : List ℕ) → KeepsOthers part files between → IsNoted id rows log table new → bytes ≡ frame_of payload
+        → Appends bytes table.log log (between table.log.file) (after table.log.file) → HoldsCommits new after (commits ++ commit ∷ [])
+    written_commits between after new log bytes kept noted frame_is append =
+        let end = append (map commit_spelling commits) payload (ready between kept) (IsPayload-commit_of table.next_part rows id) frame_is in
+        let file_is : new.log.file ≡ table.log.file = ap (λ (l : Log). l.file) noted.log_is ∙ noted.file in
+        HoldsCommits-by new after (commits ++ commit ∷ []) (held_form table) state noted.form noted.state right
+        (subst (λ (ps : List (List ℕ)). IsReady new.log.gate ps (after new.log.file)) (sym payloads)
+        (subst (λ (f : FileId). IsReady new.log.gate (map commit_spelling commits ++ payload ∷ []) (after f)) (sym file_is)
+        (subst (λ (l : Log). IsReady l.gate (map commit_spelling commits ++ payload ∷ []) (after table.log.file)) (sym noted.log_is) end)))
+        replays
 
-  frame : (bytes : List ℕ) → bytes ≡ frame_of (commit_spelling (commit_of table.next_part rows id)) → bytes ≡ frame_of (commit_spelling commit)
-  frame bytes same = same ∙ ap₂ (λ (n : ℕ) (i : BlockId). frame_of (commit_spelling (commit_of table.next_part n i))) is.brings.rows_are is.brings.id_is
+  -- the book of its table, and one entry more
+  module _ (files : FileId → FileState) (book : Book) (entry : Entry) (encoded : List ℕ) (entry_is : IsNewEntry table files book entry id rows encoded) where
+    lawful : IsLawfulBook (held_form table) (appended entry book)
+    lawful = IsLawfulBook-appended (held_form table) entry book entry_is.brings.lawful (omega (arith, is.room.in_number, entry_is.held.describes.entries)) entry_is.new entry_is.held.lawful
 
-  -- the new part may be torn
-  written_left : (said : List ℕ) (image : Image) (text : List ℕ) → OthersLeft part before said image text → DeliveryLeft table book (appended entry book) before said image text
-  written_left said image text left = record {
-    others = λ f other. left.files_left f (elsewhere f other);
-    stands = inl (book_left table before image book is.within is.held
-        (ready_image table.log.gate (map commit_spelling is.held.commits) (before table.log.file) is.held.holds.log (image table.log.file) (left.files_left table.log.file log_apart))
-        (λ p low high. left.files_left (record { table = table.number; part = p }) (old_apart p high)));
-    text_left = left.text_left;
-  }
+    describes : Describes table.window.size state (appended entry book)
+    describes = Describes-added table.window.size table.next_part rows id entry (held_state table) book entry_is.brings.id_is entry_is.held.describes
 
-  -- once the new part is written
-  module _ (between : FileId → FileState) (kept : KeepsOthers part before between) (written : between part ≡ settled encoded) where
-    new_part : between (record { table = table.number; part = table.next_part }) ≡ settled_part table.kinds entry.rows
-    new_part = ap between (sym is.part_is) ∙ written ∙ ap settled is.brings.encoded_is
+    numbered : AreNumbered table.next_part table.layout.items
+    numbered = HoldsBook-numbered table files book entry_is.held
 
-    ready : IsReady table.log.gate (map commit_spelling is.held.commits) (between table.log.file)
-    ready = subst (λ (s : FileState). IsReady table.log.gate (map commit_spelling is.held.commits) s) (sym (kept table.log.file log_apart)) is.held.holds.log
-
-    old_parts : (image : Image) → ((g : FileId) → g ≢ table.log.file → IsFileImage (between g) (image g))
-        → (p : ℕ) → 8 ≤ p → p < table.next_part → IsFileImage (before (record { table = table.number; part = p })) (image (record { table = table.number; part = p }))
-    old_parts image others p low high =
-        let f : FileId = record { table = table.number; part = p } in
-        subst (λ (s : FileState). IsFileImage s (image f)) (kept f (old_apart p high)) (others f (apart p low))
-
-    -- the table stands for its book with the new entry where its commit is in the log
-    new_book_left : (image : Image) → HasFrames (map commit_spelling is.held.commits ++ commit_spelling commit ∷ []) (image table.log.file)
-        → ((g : FileId) → g ≢ table.log.file → IsFileImage (between g) (image g)) → TableStands image table.number (held_form table) (appended entry book)
-    new_book_left image frames others =
-        let f : FileId = record { table = table.number; part = table.next_part } in
-        let rows_left : image f ≡ part_file table.kinds entry.rows =
-        settled_image (part_file table.kinds entry.rows) (image f) (subst (λ (s : FileState). IsFileImage s (image f)) new_part (others f (apart table.next_part is.within.first))) in
-        record {
-          lawful = lawful;
-          commits = commits;
-          right = right;
-          log = subst (λ (g : FileId). HasFrames (map commit_spelling commits) (image g)) is.within.log
-              (subst (λ (ps : List (List ℕ)). HasFrames ps (image table.log.file)) (sym payloads) frames);
-          state = state;
-          replays = replays;
-          describes = describes;
-          parts = IsPart-added image (part_file table.kinds) table.kinds table.number table.window.size table.next_part table.key entry (held_state table) book is.brings.lawful is.held.describes is.held.lawful.runs
-              (parts_left table.kinds before image table.number table.next_part table.key book table.layout.items (old_parts image others) (HoldsBook-sound table before book is.held).parts is.held.parts)
-              rows_left;
-        }
-
-    -- the commit may be in the log or not
-    committed_left : (said : List ℕ) (image : Image) (text : List ℕ) → IsLeftWith table.log.file (HasFramesOrMore (map commit_spelling is.held.commits) (commit_spelling commit)) between said image text
-        → DeliveryLeft table book (appended entry book) before said image text
-    committed_left said image text left = record {
-      others = λ f other. subst (λ (s : FileState). IsFileImage s (image f)) (kept f (elsewhere f other))
-          (left.0 f (λ same. other (ap (λ (g : FileId). g.table) (same ∙ is.within.log))));
-      stands = elim left.1 as (λ _. TableStands image table.number (held_form table) book ⊎ TableStands image table.number (held_form table) (appended entry book)) [
-        | inl frames ↦ inl (book_left table before image book is.within is.held frames (old_parts image left.0))
-        | inr frames ↦ inr (new_book_left image frames left.0)
-      ];
+    -- the new part may be torn
+    written_left : (said : List ℕ) (image : Image) (text : List ℕ) → IsLeftWith part (λ bytes. ⊤) files said image text → DeliveryLeft table book (appended entry book) files said image text
+    written_left said image text left = record {
+      others = λ f other. left.0 f (elsewhere f other);
+      stands = inl (book_left table files image book is.within entry_is.held
+          (ready_image table.log.gate (map commit_spelling entry_is.held.commits) (files table.log.file) entry_is.held.holds.log (image table.log.file) (left.0 table.log.file log_apart))
+          (λ p low high. left.0 (part_of table.number p) (old_apart p high)));
       text_left = left.2;
     }
 
-    -- and once its commit is appended, the table holds the book with the new entry
-    pub written_book : (new : Table) (log : Log) (after : FileId → FileState) (bytes : List ℕ) → IsNoted id rows log table new → KeepsOthers table.log.file between after
-        → bytes ≡ frame_of (commit_spelling (commit_of table.next_part rows id))
-        → ((payloads : List (List ℕ)) (payload : List ℕ) → IsReady table.log.gate payloads (between table.log.file) → IsPayload payload → bytes ≡ frame_of payload → IsReady log.gate (payloads ++ payload ∷ []) (after table.log.file))
-        → HoldsBook new after (appended entry book)
-    written_book new log after bytes noted others frame_is append =
-        let f : FileId = record { table = table.number; part = table.next_part } in
-        let old_part : (p : ℕ) → 8 ≤ p → p < table.next_part → after (record { table = table.number; part = p }) ≡ before (record { table = table.number; part = p }) =
-        λ p low high. others (record { table = table.number; part = p }) (apart p low) ∙ kept (record { table = table.number; part = p }) (old_apart p high) in
-        let last : after f ≡ settled_part table.kinds entry.rows = others f (apart table.next_part is.within.first) ∙ new_part in
-        let end = append (map commit_spelling is.held.commits) (commit_spelling commit) ready (IsPayload-commit_of table.next_part (length entry.rows) entry.id) (frame bytes frame_is) in
-        HoldsBook-by new after (appended entry book) table.number (held_form table) state table.log.file commits noted.number noted.form
-        (noted.state ∙ ap₂ (λ (n : ℕ) (i : BlockId). added table.window.size table.next_part n (i ∷ []) (held_state table)) is.brings.rows_are is.brings.id_is)
-        (ap (λ (l : Log). l.file) noted.log_is ∙ noted.file) lawful right
-        (subst (λ (ps : List (List ℕ)). IsReady new.log.gate ps (after table.log.file)) (sym payloads)
-        (subst (λ (l : Log). IsReady l.gate (map commit_spelling is.held.commits ++ commit_spelling commit ∷ []) (after table.log.file)) (sym noted.log_is) end))
-        replays describes
-        (IsPart-added after (settled_part table.kinds) table.kinds table.number table.window.size table.next_part table.key entry (held_state table) book is.brings.lawful is.held.describes is.held.lawful.runs
-        (IsPart-by before after (settled_part table.kinds) (settled_part table.kinds) table.number table.next_part table.key book table.layout.items
-        (λ p rows low high was. old_part p low high ∙ was) (HoldsBook-sound table before book is.held).parts is.held.parts)
-        last)
+    -- once the new part is written
+    module _ (between : FileId → FileState) (kept : KeepsOthers part files between) (written : between part ≡ settled encoded) where
+      new_part : between (part_of table.number table.next_part) ≡ settled encoded
+      new_part = ap between (sym is.part_is) ∙ written
 
--- the calls of a delivery, one after the other
-module _ {S : Type 0} (moment : S → ℕ) (left_since : S → ℕ → Image → List ℕ → Type 0) (state_of : S → FileId → FileState) (said : S → List ℕ)
-    (table : Table) (old : S) (book : Book) (entry : Entry) (id : BlockId) (rows : ℕ) (encoded : List ℕ) (part : FileId)
-    (is : IsWritten table (state_of old) book entry id rows encoded part) where
-  -- whatever a crash from the old state on leaves stands for the book before the delivery or after it
-  abbrev Delivers : S → Type 0
-  Delivers new = During moment left_since old new (DeliveryLeft table book (appended entry book) (state_of old) (said old))
+      old_parts : (image : Image) → AsImages table.log.file between image → (p : ℕ) → 8 ≤ p → p < table.next_part → IsFileImage (files (part_of table.number p)) (image (part_of table.number p))
+      old_parts image others p low high =
+          let f : FileId = part_of table.number p in
+          subst (λ (s : FileState). IsFileImage s (image f)) (kept f (old_apart p high)) (others f (apart p low))
 
-  -- the part is written
-  pub during_part : (mid : S) → During moment left_since old mid (OthersLeft part (state_of old) (said old)) → Delivers mid
-  during_part mid writing =
-      weakened moment left_since old mid (OthersLeft part (state_of old) (said old)) (DeliveryLeft table book (appended entry book) (state_of old) (said old)) writing
-      (written_left table (state_of old) book entry id rows encoded part is (said old))
+      -- the table stands for its book with the new entry where its commit is in the log
+      new_book_left : (image : Image) → HasFrames (map commit_spelling entry_is.held.commits ++ payload ∷ []) (image table.log.file) → AsImages table.log.file between image
+          → TableStands image table.number (held_form table) (appended entry book)
+      new_book_left image frames others =
+          let f : FileId = part_of table.number table.next_part in
+          let left : image f ≡ encoded = settled_image encoded (image f) (subst (λ (s : FileState). IsFileImage s (image f)) new_part (others f (apart table.next_part is.within.first))) in
+          record {
+            lawful = lawful;
+            live = table.log.file;
+            live_is = is.within.log;
+            commits = entry_is.held.commits ++ commit ∷ [];
+            right = right files entry_is.held.commits entry_is.held.holds;
+            log = subst (λ (ps : List (List ℕ)). HasFrames ps (image table.log.file)) (sym (payloads files entry_is.held.commits entry_is.held.holds)) frames;
+            state = state;
+            replays = replays files entry_is.held.commits entry_is.held.holds;
+            describes = describes;
+            parts = IsPart-added image table.number (held_form table) table.next_part rows id entry (held_state table) book entry_is.brings.rows_are entry_is.brings.lawful entry_is.held.describes entry_is.held.lawful.runs
+                (parts_left table.number table.next_part table.layout.items numbered files image (held_form table) book (old_parts image others) entry_is.held.settled_parts entry_is.held.parts)
+                (subst (IsPartFile (held_form table) entry.rows) (sym left) entry_is.brings.encoded_is);
+          }
 
-  -- and then the commit is appended
-  pub during_commit : (mid new : S) (bytes : List ℕ) → During moment left_since old mid (OthersLeft part (state_of old) (said old))
-      → KeepsOthers part (state_of old) (state_of mid) → state_of mid part ≡ settled encoded → said mid ≡ said old → bytes ≡ frame_of (commit_spelling (commit_of table.next_part rows id))
-      → ((payloads : List (List ℕ)) (payload : List ℕ) → IsReady table.log.gate payloads (state_of mid table.log.file) → IsPayload payload → bytes ≡ frame_of payload
-      → During moment left_since mid new (IsLeftWith table.log.file (HasFramesOrMore payloads payload) (state_of mid) (said mid)))
-      → Delivers new
-  during_commit mid new bytes writing kept written same frame_is appending =
-      let payloads = map commit_spelling is.held.commits in
-      let payload = commit_spelling (commit_of table.next_part (length entry.rows) entry.id) in
-      goes_on moment left_since old mid new (DeliveryLeft table book (appended entry book) (state_of old) (said old))
-      (IsLeftWith table.log.file (HasFramesOrMore payloads payload) (state_of mid) (said mid))
-      (during_part mid writing)
-      (appending payloads payload (ready table (state_of old) book entry id rows encoded part is (state_of mid) kept written) (IsPayload-commit_of table.next_part (length entry.rows) entry.id)
-      (frame table (state_of old) book entry id rows encoded part is bytes frame_is))
-      (λ image text left. committed_left table (state_of old) book entry id rows encoded part is (state_of mid) kept written (said old) image text (left.0, left.1, left.2 ∙ same))
+      -- the commit may be in the log or not
+      committed_left : (said : List ℕ) (image : Image) (text : List ℕ) → IsLeftWith table.log.file (HasFramesOrMore (map commit_spelling entry_is.held.commits) payload) between said image text
+          → DeliveryLeft table book (appended entry book) files said image text
+      committed_left said image text left = record {
+        others = λ f other. subst (λ (s : FileState). IsFileImage s (image f)) (kept f (elsewhere f other))
+            (left.0 f (λ same. other (ap (λ (g : FileId). g.table) (same ∙ is.within.log))));
+        stands = elim left.1 as (λ _. TableStands image table.number (held_form table) book ⊎ TableStands image table.number (held_form table) (appended entry book)) [
+          | inl frames ↦ inl (book_left table files image book is.within entry_is.held frames (old_parts image left.0))
+          | inr frames ↦ inr (new_book_left image frames left.0)
+        ];
+        text_left = left.2;
+      }
+
+      -- and once its commit is appended, the table holds the book with the new entry
+      pub written_book : (after : FileId → FileState) (new : Table) (log : Log) (bytes : List ℕ) → KeepsOthers table.log.file between after → IsNoted id rows log table new → bytes ≡ frame_of payload
+          → Appends bytes table.log log (between table.log.file) (after table.log.file) → HoldsBook new after (appended entry book)
+      written_book after new log bytes others noted frame_is append =
+          let f : FileId = part_of table.number table.next_part in
+          let row : PartRow = record { lo = table.entries + 1; hi = table.entries + 1; level = 0; part = table.next_part; rows = rows } in
+          let old_part : (p : ℕ) → 8 ≤ p → p < table.next_part → after (part_of table.number p) ≡ files (part_of table.number p) =
+          λ p low high. others (part_of table.number p) (apart p low) ∙ kept (part_of table.number p) (old_apart p high) in
+          let last : after f ≡ settled encoded = others f (apart table.next_part is.within.first) ∙ new_part in
+          let bytes_are : (after f).bytes ≡ encoded = ap (λ (s : FileState). s.bytes) last in
+          HoldsBook-by new after (appended entry book) table.number (held_form table) state (entry_is.held.commits ++ commit ∷ []) noted.number noted.form noted.state
+          (written_commits files entry_is.held.commits entry_is.held.holds between after new log bytes kept noted frame_is append) lawful describes
+          (IsPart-added (λ g. (after g).bytes) table.number (held_form table) table.next_part rows id entry (held_state table) book entry_is.brings.rows_are entry_is.brings.lawful entry_is.held.describes entry_is.held.lawful.runs
+          (IsPart-by table.number table.next_part table.layout.items numbered (λ g. (files g).bytes) (λ g. (after g).bytes) (held_form table) book
+          (λ p low high. ap (λ (s : FileState). s.bytes) (old_part p low high)) entry_is.held.parts)
+          (subst (IsPartFile (held_form table) entry.rows) (sym bytes_are) entry_is.brings.encoded_is))
+          (All-push (IsSettledPart after table.number) table.layout.items row
+          (IsSettledPart-by table.number table.next_part table.layout.items numbered files after old_part entry_is.held.settled_parts) (last ∙ ap settled (sym bytes_are)))
+
+  -- the calls of a delivery, one after the other
+  module _ (old : Outside) (book : Book) (entry : Entry) (encoded : List ℕ) (entry_is : IsNewEntry table old.files book entry id rows encoded) where
+    -- whatever a crash from the old state on leaves stands for the book before the delivery or after it
+    abbrev Delivers : Outside → Type 0
+    Delivers new = During old new (DeliveryLeft table book (appended entry book) old.files old.said)
+
+    -- the part is written
+    pub during_part : (mid : Outside) → Leaves part (λ bytes. ⊤) old mid → Delivers mid
+    during_part mid writing =
+        weakened old mid (IsLeftWith part (λ bytes. ⊤) old.files old.said) (DeliveryLeft table book (appended entry book) old.files old.said) writing
+        (written_left old.files book entry encoded entry_is old.said)
+
+    -- and then the commit is appended
+    pub during_commit : (mid new : Outside) (bytes : List ℕ) → Leaves part (λ bytes. ⊤) old mid → KeepsOthers part old.files mid.files → mid.files part ≡ settled encoded → mid.said ≡ old.said
+        → bytes ≡ frame_of payload
+        → ((payloads : List (List ℕ)) (payload : List ℕ) → IsReady table.log.gate payloads (mid.files table.log.file) → IsPayload payload → bytes ≡ frame_of payload
+        → Leaves table.log.file (HasFramesOrMore payloads payload) mid new)
+        → Delivers new
+    during_commit mid new bytes writing kept written same frame_is appending =
+        let before = map commit_spelling entry_is.held.commits in
+        goes_on old mid new (DeliveryLeft table book (appended entry book) old.files old.said)
+        (IsLeftWith table.log.file (HasFramesOrMore before payload) mid.files mid.said)
+        (during_part mid writing)
+        (appending before payload (ready old.files entry_is.held.commits entry_is.held.holds mid.files kept) (IsPayload-commit_of table.next_part rows id) frame_is)
+        (λ image text left. committed_left old.files book entry encoded entry_is mid.files kept written old.said image text (left.0, left.1, left.2 ∙ same))

@@ -5,6 +5,7 @@ use Rattle.std.specs.List.{All}
 use Rattle.std.proofs.lemmas.List.{map_push}
 use Rattle.std.proofs.lemmas.List.Elements.{All-nil, All-cons, All-push}
 use Rattle.chv_site.specs.declared.file_id.FileId.{FileId}
+use Rattle.chv_site.specs.FileIds.{part_of}
 use Rattle.chv_commit.specs.Commits.{commit_spelling, IsCommit, AreWords}
 use Rattle.chv_commit.specs.Replays.{State, Span, span_of, AreRuns, added}
 use Rattle.chv_commit.specs.declared.commit.Commit.{Commit}
@@ -13,13 +14,13 @@ use Rattle.chv_commit.specs.declared.part_row.PartRow.{PartRow}
 use Rattle.chv_commit.proofs.CommitLemmas.{length-commit_spelling_add}
 use Rattle.chv_commit.proofs.RunLemmas.{AreRuns-within}
 use Rattle.chv_gate.specs.GateLog.{CLOSED, IsPayload, body, frame_of}
-use Rattle.chv_part.specs.Books.{Entry, Book, IsEntry, ids_of, appended, part_rows}
+use Rattle.chv_part.specs.Books.{TableForm, Entry, Book, IsEntry, ids_of, appended, part_rows}
+use Rattle.chv_part.specs.Parts.{IsPartFile}
 use Rattle.chv_part.specs.Standing.{Describes, IsPart}
 use Rattle.chv_part.proofs.BookRowLemmas.{part_rows-older, part_rows-newest}
 use Rattle.chv_sip.specs.declared.block_id.BlockId.{BlockId}
 use Rattle.chv_sip.specs.BlockIds.{last_ids}
 use Rattle.chv_sip.proofs.LastIds.{last_ids-last_ids}
-use Rattle.chv_types.specs.declared.kind.Kind.{Kind}
 use Rattle.chv_types.specs.declared.value.Value.{Value}
 
 -- the commit of one new entry
@@ -41,14 +42,16 @@ unfolding body
 frame_of-commit_of part rows id = refl
 
 -- what is said of a book goes on
-pub Describes-added : (window part rows : ℕ) (entry : Entry) (state : State) (book : Book) → Describes window state book → Describes window (added window part rows (entry.id ∷ []) state) (appended entry book)
-Describes-added window part rows entry state book was =
+pub Describes-added : (window part rows : ℕ) (id : BlockId) (entry : Entry) (state : State) (book : Book) → id ≡ entry.id → Describes window state book
+    → Describes window (added window part rows (id ∷ []) state) (appended entry book)
+Describes-added window part rows id entry state book id_is was =
     let row : PartRow = record { lo = state.entries + 1; hi = state.entries + 1; level = 0; part = part; rows = rows } in
     let last : Span = record { lo = length book.entries + 1; hi = length book.entries + 1; level = 0 } in
     record {
       entries = omega (arith, was.entries, length-append book.entries (entry ∷ []));
-      ids = ap (λ (ids : List BlockId). last_ids window (ids ++ entry.id ∷ [])) was.ids
-          ∙ last_ids-last_ids window (ids_of book) (entry.id ∷ [])
+      ids = ap (λ (ids : List BlockId). last_ids window (ids ++ id ∷ [])) was.ids
+          ∙ last_ids-last_ids window (ids_of book) (id ∷ [])
+          ∙ ap (λ (i : BlockId). last_ids window (ids_of book ++ i ∷ [])) id_is
           ∙ ap (last_ids window) (sym (map_push (λ (e : Entry). e.id) book.entries entry));
       layout = ap (λ (spans : List Span). spans ++ last ∷ []) was.layout
           ∙ ap (λ (n : ℕ). map span_of state.layout ++ record { lo = n + 1; hi = n + 1; level = 0 } ∷ []) (sym was.entries)
@@ -56,24 +59,29 @@ Describes-added window part rows entry state book was =
     }
 
 -- the older parts have the rows that they had
-IsPart-older : {A : Type 0} (files : FileId → A) (made : List (List Value) → A) (table : ℕ) (key : List ℕ) (entry : Entry) (book : Book) (layout : List PartRow)
-    → AreRuns 1 (length book.entries) (map span_of layout) → All (IsPart files made table key book) layout → All (IsPart files made table key (appended entry book)) layout
-IsPart-older files made table key entry book layout runs parts = λ k d below.
+IsPart-older : (files : FileId → List ℕ) (table : ℕ) (form : TableForm) (entry : Entry) (book : Book) (layout : List PartRow)
+    → AreRuns 1 (length book.entries) (map span_of layout) → All (IsPart files table form book) layout → All (IsPart files table form (appended entry book)) layout
+IsPart-older files table form entry book layout runs parts = λ k d below.
     let row : PartRow = get_or layout k d in
     let was = parts k d below in
-    let same : part_rows key (appended entry book) row.lo row.hi ≡ part_rows key book row.lo row.hi =
-    part_rows-older key entry book row.lo row.hi (AreRuns-within 1 (length book.entries) layout runs k d below).2 in
-    record { counted = was.counted ∙ ap length (sym same); file = was.file ∙ ap made (sym same) }
+    let same : part_rows form (appended entry book) row.lo row.hi ≡ part_rows form book row.lo row.hi =
+    part_rows-older form entry book row.lo row.hi (AreRuns-within 1 (length book.entries) layout runs k d below).2 in
+    record {
+      counted = was.counted ∙ ap length (sym same);
+      file = subst (λ (rows : List (List Value)). IsPartFile form rows (files (part_of table row.part))) (sym same) was.file;
+    }
 
 -- and the new one has those of the new entry
-pub IsPart-added : {A : Type 0} (files : FileId → A) (made : List (List Value) → A) (kinds : List Kind) (table window part : ℕ) (key : List ℕ) (entry : Entry) (state : State) (book : Book)
-    → IsEntry kinds key entry → Describes window state book → AreRuns 1 (length book.entries) book.layout → All (IsPart files made table key book) state.layout
-    → files (record { table = table; part = part }) ≡ made entry.rows
-    → All (IsPart files made table key (appended entry book)) (added window part (length entry.rows) (entry.id ∷ []) state).layout
-IsPart-added files made kinds table window part key entry state book is describes runs parts last =
-    let row : PartRow = record { lo = state.entries + 1; hi = state.entries + 1; level = 0; part = part; rows = length entry.rows } in
-    let rows : part_rows key (appended entry book) row.lo row.hi ≡ entry.rows =
-    ap (λ (n : ℕ). part_rows key (appended entry book) (n + 1) (n + 1)) describes.entries ∙ part_rows-newest kinds key entry book is in
-    All-push (IsPart files made table key (appended entry book)) state.layout row
-    (IsPart-older files made table key entry book state.layout (subst (λ (spans : List Span). AreRuns 1 (length book.entries) spans) describes.layout runs) parts)
-    (record { counted = ap length (sym rows); file = last ∙ ap made (sym rows) })
+pub IsPart-added : (files : FileId → List ℕ) (table : ℕ) (form : TableForm) (part rows : ℕ) (id : BlockId) (entry : Entry) (state : State) (book : Book)
+    → rows ≡ length entry.rows → IsEntry form entry → Describes form.window state book → AreRuns 1 (length book.entries) book.layout → All (IsPart files table form book) state.layout
+    → IsPartFile form entry.rows (files (part_of table part)) → All (IsPart files table form (appended entry book)) (added form.window part rows (id ∷ []) state).layout
+IsPart-added files table form part rows id entry state book rows_are is describes runs parts last =
+    let row : PartRow = record { lo = state.entries + 1; hi = state.entries + 1; level = 0; part = part; rows = rows } in
+    let newest : part_rows form (appended entry book) row.lo row.hi ≡ entry.rows =
+    ap (λ (n : ℕ). part_rows form (appended entry book) (n + 1) (n + 1)) describes.entries ∙ part_rows-newest form entry book is in
+    All-push (IsPart files table form (appended entry book)) state.layout row
+    (IsPart-older files table form entry book state.layout (subst (λ (spans : List Span). AreRuns 1 (length book.entries) spans) describes.layout runs) parts)
+    (record {
+      counted = rows_are ∙ ap length (sym newest);
+      file = subst (λ (read : List (List Value)). IsPartFile form read (files (part_of table part))) (sym newest) last;
+    })

@@ -13,13 +13,8 @@ use Rattle.chv_gate.specs.GateLog.{HasFrames}
 use Rattle.chv_gate.specs.Reading.{IsFollowed, IsReadUpTo, IsDamagedAt}
 use Rattle.chv_gate.proofs.DamageLaws.{damage_unique, damage_excludes}
 use Rattle.chv_part.specs.declared.damage.Damage.{Damage}
-use Rattle.chv_site.specs.declared.file_id.FileId.{FileId}
 use Rattle.chv_table.specs.Damage.{IsLogDamage}
 use Rattle.chv_table.specs.Opening.{LacksCommit}
-
--- the log of a table
-abbrev pub log_of : ℕ → FileId
-log_of number = record { table = number; part = 0 }
 
 -- payloads of commits are cut where the commits are
 front-payloads : (xs ys : List (List ℕ)) (commits : List Commit) → xs ++ ys ≡ map commit_spelling commits

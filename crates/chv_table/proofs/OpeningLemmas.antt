@@ -1,35 +1,44 @@
 -- How commits that are read one after the other become a table.
-use Rattle.std.proofs.Common.{◌≡◌, ℕ, ◌+◌, ◌-◌, ◌≤◌, List, [], ◌∷◌, ◌++◌, length, map, Some, refl, sym, ap, subst, ◌∙◌, arith, length-append, length-drop}
+use Rattle.std.proofs.Common.{◌≡◌, ◌≢◌, ℕ, ◌+◌, ◌-◌, ◌<◌, ◌≤◌, List, [], ◌∷◌, ◌++◌, length, get_or, map, Some, refl, sym, ap, subst, ◌∙◌, arith, length-drop}
 use Rattle.std.specs.List.{All}
 use Rattle.std.proofs.lemmas.List.{map_push}
 use Rattle.std.proofs.lemmas.List.Elements.{All-nil, All-push}
 use Rattle.chv_site.specs.declared.file_id.FileId.{FileId}
+use Rattle.chv_site.specs.Effects.{ChangesOnly}
+use Rattle.chv_site.specs.FileIds.{table_log, part_of}
 use Rattle.chv_site.specs.Files.{FileState, settled, KeepsOthers}
+use Rattle.chv_site.specs.Images.{Image, IsFileImage, IsLeft}
+use Rattle.chv_site.specs.During.{During}
+use Rattle.chv_site.specs.Outside.{Outside}
+use Rattle.chv_site.proofs.Moments.{weakened}
+use Rattle.chv_site.proofs.Images.{settled_image}
 use Rattle.chv_catalog.specs.Schemas.{kinds_of}
 use Rattle.chv_catalog.specs.declared.table_def.TableDef.{TableDef}
 use Rattle.chv_commit.specs.Commits.{commit_spelling, IsCommit}
 use Rattle.chv_commit.specs.Replays.{State, no_state, taken, replayed, IsSound, AreCommits}
 use Rattle.chv_commit.specs.declared.commit.Commit.{Commit}
 use Rattle.chv_commit.specs.declared.commit.Commit.TheVariants.{Add, Merge}
+use Rattle.chv_commit.specs.declared.part_row.PartRow.{PartRow}
 use Rattle.chv_commit.proofs.ReplayLemmas.{replayed-more}
 use Rattle.chv_commit.proofs.ShortLemmas.{frames_size, replayed-short}
 use Rattle.chv_commit.proofs.SoundLemmas.{IsSound-no_state, IsSound-replayed}
 use Rattle.chv_commit.proofs.TakenLemmas.{taken-Some_add, taken-Some_merge, AreCommits-unique}
-use Rattle.chv_gate.specs.GateLog.{HasFrames, begun, open_frames, IsReady}
+use Rattle.chv_gate.specs.Crashes.{IsLeftWith, Leaves, LeavesFrames}
+use Rattle.chv_gate.specs.GateLog.{HasFrames, begun, IsReady}
 use Rattle.chv_gate.specs.declared.log.Log.{Log}
 use Rattle.chv_gate.specs.Reading.{IsOpen, IsReadUpTo}
 use Rattle.chv_gate.proofs.DamageLaws.{frames_of_begun, damage_of_begun}
 use Rattle.chv_gate.proofs.GateLogLemmas.{unique}
-use Rattle.chv_gate.proofs.ReadingLaws.{reads_none, reads_more, reads_end, reads_ready, closed_long}
-use Rattle.chv_part.specs.Books.{TableForm, Book}
-use Rattle.chv_part.specs.Parts.{part_file}
+use Rattle.chv_gate.proofs.ReadingLaws.{reads_none, reads_more, reads_end, reads_ready}
+use Rattle.chv_part.specs.Books.{AreColumns, TableForm, Book}
+use Rattle.chv_part.specs.Forms.{form_of}
 use Rattle.chv_part.specs.declared.damage.Damage.{Damage}
 use Rattle.chv_table.specs.Damage.{IsLogDamage}
-use Rattle.chv_table.specs.Opening.{ReadsCommit, TakesCommit, LacksCommit}
-use Rattle.chv_table.specs.Tables.{AreColumns, form_of, held_state, IsTableOf, IsWithin, IsPlaced, HoldsCommits, HoldsBook, SettlesBook, settled_part}
+use Rattle.chv_table.specs.Opening.{OpeningLeft, ReadsCommit, TakesCommit, LacksCommit}
+use Rattle.chv_table.specs.Tables.{held_state, IsTableOf, IsWithin, IsPlaced, IsSettledPart, HoldsCommits, HoldsBook, SettlesBook}
 use Rattle.chv_table.specs.declared.table.Table.{Table}
-use Rattle.chv_table.proofs.LogDamageLemmas.{log_of, lacks_damage}
-use Rattle.chv_table.proofs.TableLemmas.{HoldsBook-by, IsPart-by}
+use Rattle.chv_table.proofs.LogDamageLemmas.{lacks_damage}
+use Rattle.chv_table.proofs.TableLemmas.{HoldsCommits-by, HoldsCommits-placed, HoldsBook-by, IsPart-by, IsSettledPart-by, parts_left}
 
 -- on any site: these commits were taken, and their frames end where the next gate is
 pub record HasTaken (gate window : ℕ) (state : State) : Type 0 where
@@ -74,7 +83,7 @@ pub took_ids : (gate window : ℕ) (old : State) (next : ℕ) (new : State) → 
 took_ids gate window old next new took few = taken-ids window old new took.commit took.fits few
 
 -- a table that was opened is within what is held of it
-pub opened_within : (number gate : ℕ) (def : TableDef) (state : State) (table : Table) → IsTableOf number def table → table.log ≡ record { file = log_of number; gate = gate } → held_state table ≡ state
+pub opened_within : (number gate : ℕ) (def : TableDef) (state : State) (table : Table) → IsTableOf number def table → table.log ≡ record { file = table_log number; gate = gate } → held_state table ≡ state
     → AreColumns (kinds_of def) → HasTaken gate def.window state → IsWithin table
 opened_within number gate def state table is log_is state_is columns so_far =
     let sound = took_sound gate def.window state so_far in
@@ -84,12 +93,12 @@ opened_within number gate def state table is log_is state_is columns so_far =
     let next = ap (λ (s : State). s.next_part) state_is in
     let place = ap (λ (l : Log). l.gate) log_is in
     record {
-      log = ap (λ (l : Log). l.file) log_is ∙ ap log_of (sym is.number_is);
+      log = ap (λ (l : Log). l.file) log_is ∙ ap table_log (sym is.number_is);
       columns = subst AreColumns (sym (ap (λ (f : TableForm). f.kinds) is.form_is)) columns;
       first = omega (arith, next, sound.next);
       bounded = omega (arith, entries, sound.bounded);
       counted = omega (arith, layout, entries, next, sound.counted);
-      gate = omega (arith, layout, entries, place, so_far.place, short);
+      gate = omega (arith, layout, entries, place, so_far.place, short, sound.counted, sound.next);
     }
 
 -- these commits are read, and their gates are open
@@ -128,15 +137,23 @@ read_damage number gate window state bytes damage so_far told =
           (lacks_damage window gate state (begun bytes) so_far.commits so_far.right so_far.replays so_far.read told.1),
     )
 
+-- a part's file is no log
+part_apart : (number part : ℕ) → 8 ≤ part → part_of number part ≢ table_log number
+part_apart number part low same = let e : part ≡ 0 = ap (λ (f : FileId). f.part) same in omega (arith, e, low)
+
+-- where nothing is pending of a table's files, nothing is of its parts
+settled_parts : (number : ℕ) (files : FileId → FileState) (layout : List PartRow) → ((f : FileId) → f.table ≡ number → files f ≡ settled (files f).bytes) → All (IsSettledPart files number) layout
+settled_parts number files layout whole = λ k d below. whole (part_of number (get_or layout k d).part) refl
+
 -- a table whose log is begun, and then read up to a gate where it ends
 pub record HasOpened (number gate : ℕ) (def : TableDef) (state : State) (old new : FileId → FileState) (table : Table) : Type 0 where
   pub is : IsTableOf number def table
-  pub log : table.log ≡ record { file = log_of number; gate = gate }
+  pub log : table.log ≡ record { file = table_log number; gate = gate }
   pub state_is : held_state table ≡ state
-  pub begun_now : new (log_of number) ≡ settled (begun (old (log_of number)).bytes)
-  pub others : KeepsOthers (log_of number) old new
-  pub read : HasRead gate def.window state (begun (old (log_of number)).bytes)
-  pub ended : IsOpen gate (begun (old (log_of number)).bytes) → ⊥
+  pub begun_now : new (table_log number) ≡ settled (begun (old (table_log number)).bytes)
+  pub others : KeepsOthers (table_log number) old new
+  pub read : HasRead gate def.window state (begun (old (table_log number)).bytes)
+  pub ended : IsOpen gate (begun (old (table_log number)).bytes) → ⊥
 
 module _ (number gate : ℕ) (def : TableDef) (state : State) (old new : FileId → FileState) (table : Table) (opened : HasOpened number gate def state old new table) where
   abbrev commits : List Commit
@@ -147,40 +164,96 @@ module _ (number gate : ℕ) (def : TableDef) (state : State) (old new : FileId 
   opened_ready =
       subst (λ (l : Log). IsReady l.gate (map commit_spelling commits) (new l.file)) (sym opened.log)
       (subst (λ (s : FileState). IsReady gate (map commit_spelling commits) s) (sym opened.begun_now)
-      (reads_ready gate (map commit_spelling commits) (old (log_of number)).bytes opened.read.read opened.ended))
+      (reads_ready gate (map commit_spelling commits) (old (table_log number)).bytes opened.read.read opened.ended))
 
   pub opened_commits : HoldsCommits table new commits
-  opened_commits = record {
-    right = opened.read.right;
-    log = opened_ready;
-    replays = subst (λ (f : TableForm). replayed f.window no_state commits ≡ Some (held_state table)) (sym opened.is.form_is) (opened.read.replays ∙ ap Some (sym opened.state_is));
-  }
+  opened_commits = HoldsCommits-by table new commits (form_of def) state opened.is.form_is opened.state_is opened.read.right opened_ready opened.read.replays
 
   pub opened_placed : IsPlaced table new
-  opened_placed =
-      let ready = opened_ready in
-      omega (arith, ready.place, ap length ready.split, length-append (open_frames (map commit_spelling commits)) ready.rest, closed_long ready.rest ready.closed)
+  opened_placed = HoldsCommits-placed table new commits opened_commits
 
   -- and had these before it was begun
-  pub opened_frames : HasFrames (map commit_spelling commits) (old (log_of number)).bytes
+  pub opened_frames : HasFrames (map commit_spelling commits) (old (table_log number)).bytes
   opened_frames =
-      frames_of_begun (map commit_spelling commits) (old (log_of number)).bytes
-      (reads_end gate (map commit_spelling commits) (begun (old (log_of number)).bytes) opened.read.read opened.ended)
+      frames_of_begun (map commit_spelling commits) (old (table_log number)).bytes
+      (reads_end gate (map commit_spelling commits) (begun (old (table_log number)).bytes) opened.read.read opened.ended)
 
   -- the table stands for the book for which its files stood
   pub opened_book : (book : Book) → SettlesBook number (form_of def) old book → HoldsBook table new book
   opened_book book stood =
       let stands = stood.stands in
+      let frames = subst (λ (f : FileId). HasFrames (map commit_spelling stands.commits) (old f).bytes) stands.live_is stands.log in
       let payloads : map commit_spelling stands.commits ≡ map commit_spelling commits =
-      unique (map commit_spelling stands.commits) (map commit_spelling commits) (old (log_of number)).bytes stands.log opened_frames in
+      unique (map commit_spelling stands.commits) (map commit_spelling commits) (old (table_log number)).bytes frames opened_frames in
       let same = AreCommits-unique def.window (map commit_spelling commits)
-      (AreCommits-read gate def.window state (begun (old (log_of number)).bytes) opened.read)
+      (AreCommits-read gate def.window state (begun (old (table_log number)).bytes) opened.read)
       (record { commits = stands.commits; right = stands.right; are = sym payloads; state = stands.state; replays = stands.replays }) in
-      HoldsBook-by table new book number (form_of def) stands.state table.log.file commits opened.is.number_is opened.is.form_is (opened.state_is ∙ same.1) refl
-      stands.lawful opened.read.right opened_ready (opened.read.replays ∙ ap Some same.1) stands.describes
-      (IsPart-by (λ f. (old f).bytes) new (part_file (kinds_of def)) (settled_part (kinds_of def)) number stands.state.next_part def.key book stands.state.layout
-      (λ p rows low high was.
-      let part : FileId = record { table = number; part = p } in
-      opened.others part (λ log. let e : p ≡ 0 = ap (λ (f : FileId). f.part) log in omega (arith, e, low))
-      ∙ stood.settled_files part refl ∙ ap settled was)
-      (IsSound-replayed def.window no_state stands.state stands.commits IsSound-no_state stands.replays).parts stands.parts)
+      let numbered = (IsSound-replayed def.window no_state stands.state stands.commits IsSound-no_state stands.replays).parts in
+      let kept : (part : ℕ) → 8 ≤ part → part < stands.state.next_part → new (part_of number part) ≡ old (part_of number part) = λ part low high. opened.others (part_of number part) (part_apart number part low) in
+      HoldsBook-by table new book number (form_of def) stands.state commits opened.is.number_is opened.is.form_is (opened.state_is ∙ same.1) opened_commits stands.lawful stands.describes
+      (IsPart-by number stands.state.next_part stands.state.layout numbered (λ f. (old f).bytes) (λ f. (new f).bytes) (form_of def) book
+      (λ part low high. ap (λ (s : FileState). s.bytes) (kept part low high)) stands.parts)
+      (IsSettledPart-by number stands.state.next_part stands.state.layout numbered old new kept (settled_parts number old stands.state.layout stood.settled_files))
+
+-- a crash that leaves the frames of the log leaves the book for which the files stood
+pub book_opening : (number : ℕ) (form : TableForm) (book : Book) (files : FileId → FileState) (said : List ℕ) (image : Image) (text : List ℕ) → (stood : SettlesBook number form files book)
+    → IsLeftWith (table_log number) (HasFrames (map commit_spelling stood.stands.commits)) files said image text → OpeningLeft number form book files said image text
+book_opening number form book files said image text stood left =
+    let stands = stood.stands in
+    let numbered = (IsSound-replayed form.window no_state stands.state stands.commits IsSound-no_state stands.replays).parts in
+    record {
+      others = left.0;
+      stands = record {
+        lawful = stands.lawful;
+        live = table_log number;
+        live_is = refl;
+        commits = stands.commits;
+        right = stands.right;
+        log = left.1;
+        state = stands.state;
+        replays = stands.replays;
+        describes = stands.describes;
+        parts = parts_left number stands.state.next_part stands.state.layout numbered files image form book
+            (λ part low high. left.0 (part_of number part) (part_apart number part low)) (settled_parts number files stands.state.layout stood.settled_files) stands.parts;
+      };
+      text_left = left.2;
+    }
+
+-- before an opening, a crash leaves the frames of the log
+pub settled_frames : (number : ℕ) (form : TableForm) (book : Book) (files : FileId → FileState) → (stood : SettlesBook number form files book)
+    → LeavesFrames (map commit_spelling stood.stands.commits) (files (table_log number))
+settled_frames number form book files stood image is =
+    let log : FileId = table_log number in
+    let left : image ≡ (files log).bytes = settled_image (files log).bytes image (subst (λ (s : FileState). IsFileImage s image) (stood.settled_files log refl) is) in
+    let frames = subst (λ (f : FileId). HasFrames (map commit_spelling stood.stands.commits) (files f).bytes) stood.stands.live_is stood.stands.log in
+    subst (HasFrames (map commit_spelling stood.stands.commits)) (sym left) frames
+
+-- so does one before the first call
+pub unopened_left : (number : ℕ) (form : TableForm) (book : Book) (files : FileId → FileState) (said : List ℕ) (image : Image) (text : List ℕ) → SettlesBook number form files book
+    → IsLeft files said image text → OpeningLeft number form book files said image text
+unopened_left number form book files said image text stood left =
+    book_opening number form book files said image text stood
+    (λ g apart. left.0 g, settled_frames number form book files stood (image (table_log number)) (left.0 (table_log number)), left.1)
+
+-- where a crash leaves the frames of the log, whatever they are, it leaves the book for which the files stood
+pub opening_left : (number : ℕ) (form : TableForm) (book : Book) (old new : Outside) → SettlesBook number form old.files book
+    → ((payloads : List (List ℕ)) → LeavesFrames payloads (old.files (table_log number)) → Leaves (table_log number) (HasFrames payloads) old new)
+    → During old new (OpeningLeft number form book old.files old.said)
+opening_left number form book old new stood leaves =
+    let payloads = map commit_spelling stood.stands.commits in
+    weakened old new (IsLeftWith (table_log number) (HasFrames payloads) old.files old.said) (OpeningLeft number form book old.files old.said)
+    (leaves payloads (settled_frames number form book old.files stood)) (λ image text left. book_opening number form book old.files old.said image text stood left)
+
+-- a log of two bytes or more is begun
+pub begun_long : (bytes : List ℕ) → 2 ≤ length bytes → begun bytes ≡ bytes
+begun_long [] long = absurd (omega (arith, long))
+begun_long (gate ∷ []) long = absurd (omega (arith, long))
+begun_long (gate ∷ next ∷ behind) long = refl
+
+-- a call that did not fail changes one file
+pub changes_well : (tells failed : Type 0) (f : FileId) (old new : Outside) → (failed → ⊥) → ChangesOnly tells failed f old new → ChangesOnly tells ⊥ f old new
+changes_well tells failed f old new well changes = record {
+  others = changes.others;
+  said = changes.said;
+  counts = record { keeps = changes.counts.keeps; cause = λ none. absurd none; same = λ none. changes.counts.same well; other = changes.counts.other };
+}

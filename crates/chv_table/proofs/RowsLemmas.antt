@@ -6,67 +6,55 @@ use Rattle.std.proofs.lemmas.Grind.{flat_map-append}
 use Rattle.std.proofs.lemmas.List.{get_or_at, get_or_append_left, length-append, take-append-drop, drop_more, take_more}
 use Rattle.std.proofs.lemmas.List.Elements.{All-weaker, All-get_or, All-more}
 use Rattle.chv_site.specs.declared.file_id.FileId.{FileId}
+use Rattle.chv_site.specs.FileIds.{part_of}
 use Rattle.chv_site.specs.Files.{FileState}
-use Rattle.chv_block.specs.Spellings.{AllAreOf}
 use Rattle.chv_commit.specs.declared.part_row.PartRow.{PartRow}
 use Rattle.chv_sip.specs.BlockIds.{keyed_hash, first_key}
-use Rattle.chv_types.specs.declared.kind.Kind.{Kind}
 use Rattle.chv_types.specs.declared.value.Value.{Value}
-use Rattle.chv_part.specs.Books.{Book, part_rows}
-use Rattle.chv_part.specs.Parts.{framed, part_file, HashDiffers, IsWhole}
+use Rattle.chv_part.specs.Books.{TableForm, Book, part_rows}
+use Rattle.chv_part.specs.Parts.{framed, IsPartFile, HashDiffers, IsWhole}
 use Rattle.chv_part.specs.Standing.{IsPart}
 use Rattle.chv_part.specs.declared.damage.Damage.{Damage}
 use Rattle.chv_part.specs.declared.damage.Damage.TheVariants.{Catalog, Log, PartHash, PartShape}
-use Rattle.chv_part.proofs.BookRowLemmas.{part_rows-kinds, length-part_rows, rows_of_parts}
-use Rattle.chv_part.proofs.PartLemmas.{number-unique, framed-body, hash_or_shape, hash_of_whole, part_file-unique}
+use Rattle.chv_part.proofs.BookRowLemmas.{length-part_rows, rows_of_parts}
+use Rattle.chv_part.proofs.PartLemmas.{number-unique, framed-body, hash_or_shape, hash_of_whole, IsPartFile-unique}
 use Rattle.chv_table.specs.Damage.{ArePartsWhole, IsDamageOfPart, IsPartDamage}
-use Rattle.chv_table.specs.Tables.{HoldsBook, held_form, settled_part}
+use Rattle.chv_table.specs.Tables.{HoldsBook, held_form}
 use Rattle.chv_table.specs.declared.table.Table.{Table}
-
--- the file of a live part of a table that holds a book is that of its entries' rows
-part_bytes : (table : Table) (files : FileId → FileState) (book : Book) (row : PartRow) → IsPart files (settled_part table.kinds) table.number table.key book row
-    → (files (record { table = table.number; part = row.part })).bytes ≡ part_file table.kinds (part_rows table.key book row.lo row.hi)
-part_bytes table files book row is = ap (λ (s : FileState). s.bytes) is.file
 
 -- the live part at a place
 abbrev pub row_at : List PartRow → ℕ → PartRow
 row_at layout place = get_or layout place (record { lo = 0; hi = 0; level = 0; part = 0; rows = 0 })
 
--- rows that are read from a live part are those of its entries
-part_read : (table : Table) (files : FileId → FileState) (book : Book) (row : PartRow) (read : List (List Value)) → HoldsBook table files book
-    → IsPart files (settled_part table.kinds) table.number table.key book row → AllAreOf table.kinds read → length read < 2 ^ 64
-    → (files (record { table = table.number; part = row.part })).bytes ≡ part_file table.kinds read → read ≡ part_rows table.key book row.lo row.hi
-part_read table files book row read held part are short is =
-    part_file-unique table.kinds read (part_rows table.key book row.lo row.hi) short (length-part_rows (held_form table) book held.lawful row.lo row.hi)
-    are (part_rows-kinds (held_form table) book held.lawful row.lo row.hi) (sym is ∙ part_bytes table files book row part)
-
 -- the rows of one part more
 pub rows_more : (table : Table) (files : FileId → FileState) (book : Book) (place : ℕ) (rows read : List (List Value)) → HoldsBook table files book
-    → place < length table.layout.items → AllAreOf table.kinds read → length read < 2 ^ 64
-    → (files (record { table = table.number; part = (row_at table.layout.items place).part })).bytes ≡ part_file table.kinds read
-    → rows ≡ rows_of_parts table.key book (take place table.layout.items) → rows ++ read ≡ rows_of_parts table.key book (take (place + 1) table.layout.items)
-rows_more table files book place rows read held within are short is so_far =
+    → place < length table.layout.items → length read < 2 ^ 64 → IsPartFile (held_form table) read (files (part_of table.number (row_at table.layout.items place).part)).bytes
+    → rows ≡ rows_of_parts (held_form table) book (take place table.layout.items) → rows ++ read ≡ rows_of_parts (held_form table) book (take (place + 1) table.layout.items)
+rows_more table files book place rows read held within short is so_far =
+    let form = held_form table in
     let layout : List PartRow = table.layout.items in
     let row : PartRow = row_at layout place in
-    let of : PartRow → List (List Value) = λ (part : PartRow). part_rows table.key book part.lo part.hi in
-    let part : IsPart files (settled_part table.kinds) table.number table.key book row =
-    All-get_or (IsPart files (settled_part table.kinds) table.number table.key book) layout place _ within held.parts in
-    ap₂ (λ (x y : List (List Value)). x ++ y) so_far (part_read table files book row read held part are short is ∙ sym (append-nil (of row)))
+    let of : PartRow → List (List Value) = λ (part : PartRow). part_rows form book part.lo part.hi in
+    let part : IsPart (λ f. (files f).bytes) table.number form book row =
+    All-get_or (IsPart (λ f. (files f).bytes) table.number form book) layout place _ within held.parts in
+    let same : read ≡ of row =
+    IsPartFile-unique form read (of row) (files (part_of table.number row.part)).bytes short (length-part_rows form book held.lawful row.lo row.hi) is part.file in
+    ap₂ (λ (x y : List (List Value)). x ++ y) so_far (same ∙ sym (append-nil (of row)))
     ∙ sym (flat_map-append of (take place layout) (row ∷ [])) ∙ ap (flat_map of) (sym (take_more layout place _ within))
 
 -- one part more is whole
-pub whole_more : (number : ℕ) (kinds : List Kind) (layout : List PartRow) (place : ℕ) (files : FileId → List ℕ) → place < length layout
-    → ArePartsWhole number kinds (take place layout) files → IsWhole kinds (files (record { table = number; part = (row_at layout place).part }))
-    → ArePartsWhole number kinds (take (place + 1) layout) files
-whole_more number kinds layout place files within whole is =
-    All-more (λ (row : PartRow). IsWhole kinds (files (record { table = number; part = row.part }))) layout place _ within whole is
+pub whole_more : (number : ℕ) (form : TableForm) (layout : List PartRow) (place : ℕ) (files : FileId → List ℕ) → place < length layout
+    → ArePartsWhole number form (take place layout) files → IsWhole form (files (part_of number (row_at layout place).part))
+    → ArePartsWhole number form (take (place + 1) layout) files
+whole_more number form layout place files within whole is =
+    All-more (λ (row : PartRow). IsWhole form (files (part_of number row.part))) layout place _ within whole is
 
 -- a damaged part is the first where those in front of it are whole
-pub first_damaged : (number : ℕ) (kinds : List Kind) (layout : List PartRow) (place : ℕ) (files : FileId → List ℕ) (damage : Damage) → place < length layout
-    → ArePartsWhole number kinds (take place layout) files
-    → IsDamageOfPart number kinds (row_at layout place).part (files (record { table = number; part = (row_at layout place).part })) damage
-    → IsPartDamage number kinds layout files damage
-first_damaged number kinds layout place files damage within whole is = record {
+pub first_damaged : (number : ℕ) (form : TableForm) (layout : List PartRow) (place : ℕ) (files : FileId → List ℕ) (damage : Damage) → place < length layout
+    → ArePartsWhole number form (take place layout) files
+    → IsDamageOfPart number form (row_at layout place).part (files (part_of number (row_at layout place).part)) damage
+    → IsPartDamage number form layout files damage
+first_damaged number form layout place files damage within whole is = record {
   earlier = take place layout;
   row = row_at layout place;
   later = drop (place + 1) layout;
@@ -77,36 +65,35 @@ first_damaged number kinds layout place files damage within whole is = record {
 
 -- the parts of a table that holds a book are whole
 pub book_parts_whole : (table : Table) (files : FileId → FileState) (book : Book) → HoldsBook table files book
-    → ArePartsWhole table.number table.kinds table.layout.items (λ f. (files f).bytes)
+    → ArePartsWhole table.number (held_form table) table.layout.items (λ f. (files f).bytes)
 book_parts_whole table files book held =
-    All-weaker (IsPart files (settled_part table.kinds) table.number table.key book) (λ (row : PartRow). IsWhole table.kinds (files (record { table = table.number; part = row.part })).bytes)
-    (λ (row : PartRow) is. (part_rows table.key book row.lo row.hi, part_rows-kinds (held_form table) book held.lawful row.lo row.hi, part_bytes table files book row is))
-    table.layout.items held.parts
+    All-weaker (IsPart (λ f. (files f).bytes) table.number (held_form table) book) (λ (row : PartRow). IsWhole (held_form table) (files (part_of table.number row.part)).bytes)
+    (λ (row : PartRow) is. (part_rows (held_form table) book row.lo row.hi, is.file)) table.layout.items held.parts
 
 -- no part is both whole and damaged
-whole_or_damaged : (number : ℕ) (kinds : List Kind) (part : ℕ) (file : List ℕ) (damage : Damage) → IsWhole kinds file → IsDamageOfPart number kinds part file damage → ⊥
-whole_or_damaged number kinds part file (Catalog at) whole is = is
-whole_or_damaged number kinds part file (Log table at) whole is = is
-whole_or_damaged number kinds part file (PartHash table told kept found) whole is = hash_of_whole kinds kept found whole.0 file whole.2 is.2
-whole_or_damaged number kinds part file (PartShape table told) whole is = is.2.off whole.0 whole.1 whole.2
+whole_or_damaged : (number : ℕ) (form : TableForm) (part : ℕ) (file : List ℕ) (damage : Damage) → IsWhole form file → IsDamageOfPart number form part file damage → ⊥
+whole_or_damaged number form part file (Catalog at) whole is = is
+whole_or_damaged number form part file (Log table at) whole is = is
+whole_or_damaged number form part file (PartHash table told kept found) whole is = hash_of_whole form kept found whole.0 file whole.1 is.2
+whole_or_damaged number form part file (PartShape table told) whole is = is.2.off whole.0 whole.1
 
 -- of parts of which all in front of some place are whole, none there is damaged
-none_damaged : (number : ℕ) (kinds : List Kind) (layout front : List PartRow) (files : FileId → List ℕ) (damage : Damage) (rest : List PartRow)
-    → (is : IsPartDamage number kinds layout files damage) → layout ≡ front ++ rest → ArePartsWhole number kinds front files → length is.earlier < length front → ⊥
-none_damaged number kinds layout front files damage rest is split whole within =
+none_damaged : (number : ℕ) (form : TableForm) (layout front : List PartRow) (files : FileId → List ℕ) (damage : Damage) (rest : List PartRow)
+    → (is : IsPartDamage number form layout files damage) → layout ≡ front ++ rest → ArePartsWhole number form front files → length is.earlier < length front → ⊥
+none_damaged number form layout front files damage rest is split whole within =
     let place : ℕ = length is.earlier in
     let here : get_or front place is.row ≡ is.row =
     sym (get_or_append_left front rest is.row place within) ∙ ap (λ (l : List PartRow). get_or l place is.row) (sym split ∙ is.split) ∙ get_or_at is.earlier is.row is.later is.row place refl in
-    whole_or_damaged number kinds is.row.part (files (record { table = number; part = is.row.part })) damage
-    (subst (λ (row : PartRow). IsWhole kinds (files (record { table = number; part = row.part }))) here
-    (All-get_or (λ (row : PartRow). IsWhole kinds (files (record { table = number; part = row.part }))) front place is.row within whole))
+    whole_or_damaged number form is.row.part (files (part_of number is.row.part)) damage
+    (subst (λ (row : PartRow). IsWhole form (files (part_of number row.part))) here
+    (All-get_or (λ (row : PartRow). IsWhole form (files (part_of number row.part))) front place is.row within whole))
     is.is
 
 -- where each part is whole, none is damaged
-pub part_damage_excludes : (number : ℕ) (kinds : List Kind) (layout : List PartRow) (files : FileId → List ℕ) (damage : Damage)
-    → IsPartDamage number kinds layout files damage → ArePartsWhole number kinds layout files → ⊥
-part_damage_excludes number kinds layout files damage is whole =
-    none_damaged number kinds layout layout files damage [] is (sym (append-nil layout)) whole
+pub part_damage_excludes : (number : ℕ) (form : TableForm) (layout : List PartRow) (files : FileId → List ℕ) (damage : Damage)
+    → IsPartDamage number form layout files damage → ArePartsWhole number form layout files → ⊥
+part_damage_excludes number form layout files damage is whole =
+    none_damaged number form layout layout files damage [] is (sym (append-nil layout)) whole
     (omega (arith, ap length is.split, length-append is.earlier (is.row ∷ is.later)))
 
 -- a file has one hash that it keeps, and one that is found
@@ -118,41 +105,41 @@ hashes-unique a b x y file one other =
     )
 
 -- a part is damaged in one way
-damage-unique : (number : ℕ) (kinds : List Kind) (part : ℕ) (file : List ℕ) (a b : Damage) → IsDamageOfPart number kinds part file a → IsDamageOfPart number kinds part file b → a ≡ b
-damage-unique number kinds part file (Catalog at) b of_a of_b = absurd of_a
-damage-unique number kinds part file (Log table at) b of_a of_b = absurd of_a
-damage-unique number kinds part file (PartHash table told kept found) (Catalog at) of_a of_b = absurd of_b
-damage-unique number kinds part file (PartHash table told kept found) (Log other at) of_a of_b = absurd of_b
-damage-unique number kinds part file (PartHash table told kept found) (PartHash other p k f) of_a of_b =
+damage-unique : (number : ℕ) (form : TableForm) (part : ℕ) (file : List ℕ) (a b : Damage) → IsDamageOfPart number form part file a → IsDamageOfPart number form part file b → a ≡ b
+damage-unique number form part file (Catalog at) b of_a of_b = absurd of_a
+damage-unique number form part file (Log table at) b of_a of_b = absurd of_a
+damage-unique number form part file (PartHash table told kept found) (Catalog at) of_a of_b = absurd of_b
+damage-unique number form part file (PartHash table told kept found) (Log other at) of_a of_b = absurd of_b
+damage-unique number form part file (PartHash table told kept found) (PartHash other p k f) of_a of_b =
     let hashes = hashes-unique kept k found f file of_a.2 of_b.2 in
     let tables : table ≡ other = of_a.0 ∙ sym of_b.0 in
     let parts : told ≡ p = of_a.1 ∙ sym of_b.1 in
     let kept_is : kept ≡ k = hashes.0 in
     let found_is : found ≡ f = hashes.1 in
     cc
-damage-unique number kinds part file (PartHash table told kept found) (PartShape other p) of_a of_b = absurd (hash_or_shape kinds kept found file of_a.2 of_b.2)
-damage-unique number kinds part file (PartShape table told) (Catalog at) of_a of_b = absurd of_b
-damage-unique number kinds part file (PartShape table told) (Log other at) of_a of_b = absurd of_b
-damage-unique number kinds part file (PartShape table told) (PartHash other p k f) of_a of_b = absurd (hash_or_shape kinds k f file of_b.2 of_a.2)
-damage-unique number kinds part file (PartShape table told) (PartShape other p) of_a of_b =
+damage-unique number form part file (PartHash table told kept found) (PartShape other p) of_a of_b = absurd (hash_or_shape form kept found file of_a.2 of_b.2)
+damage-unique number form part file (PartShape table told) (Catalog at) of_a of_b = absurd of_b
+damage-unique number form part file (PartShape table told) (Log other at) of_a of_b = absurd of_b
+damage-unique number form part file (PartShape table told) (PartHash other p k f) of_a of_b = absurd (hash_or_shape form k f file of_b.2 of_a.2)
+damage-unique number form part file (PartShape table told) (PartShape other p) of_a of_b =
     let tables : table ≡ other = of_a.0 ∙ sym of_b.0 in
     let parts : told ≡ p = of_a.1 ∙ sym of_b.1 in
     cc
 
 -- the first part that is damaged is one, and so the damage that is told of parts is one
-pub part_damage_unique : (number : ℕ) (kinds : List Kind) (layout : List PartRow) (files : FileId → List ℕ) (a b : Damage)
-    → IsPartDamage number kinds layout files a → IsPartDamage number kinds layout files b → a ≡ b
-part_damage_unique number kinds layout files a b x y =
+pub part_damage_unique : (number : ℕ) (form : TableForm) (layout : List PartRow) (files : FileId → List ℕ) (a b : Damage)
+    → IsPartDamage number form layout files a → IsPartDamage number form layout files b → a ≡ b
+part_damage_unique number form layout files a b x y =
     elim (cases_lt (length x.earlier) (length y.earlier)) as (λ _. a ≡ b) [
-      | inl lt ↦ absurd (none_damaged number kinds layout y.earlier files a (y.row ∷ y.later) x y.split y.whole lt)
+      | inl lt ↦ absurd (none_damaged number form layout y.earlier files a (y.row ∷ y.later) x y.split y.whole lt)
       | inr le ↦ elim (cases_lt (length y.earlier) (length x.earlier)) as (λ _. a ≡ b) [
-        | inl lt ↦ absurd (none_damaged number kinds layout x.earlier files b (x.row ∷ x.later) y x.split x.whole lt)
+        | inl lt ↦ absurd (none_damaged number form layout x.earlier files b (x.row ∷ x.later) y x.split x.whole lt)
         | inr ge ↦
             let place : length y.earlier ≡ length x.earlier = omega arith in
             let same : y.row ≡ x.row =
             sym (get_or_at y.earlier y.row y.later x.row (length x.earlier) place) ∙ ap (λ (l : List PartRow). get_or l (length x.earlier) x.row) (sym y.split ∙ x.split)
             ∙ get_or_at x.earlier x.row x.later x.row (length x.earlier) refl in
-            damage-unique number kinds x.row.part (files (record { table = number; part = x.row.part })) a b x.is
-            (subst (λ (row : PartRow). IsDamageOfPart number kinds row.part (files (record { table = number; part = row.part })) b) same y.is)
+            damage-unique number form x.row.part (files (part_of number x.row.part)) a b x.is
+            (subst (λ (row : PartRow). IsDamageOfPart number form row.part (files (part_of number row.part)) b) same y.is)
       ]
     ]

@@ -1,21 +1,23 @@
 // How a table is opened.
-ghost use Rattle.std.specs.Prelude.{◌≡◌, ◌+◌, ◌*◌, ◌<◌, ◌≤◌, List, ℕ, length, map, true, false, Some, None, IfOk, IfSome, IsNone, OnOk, IsErrOf};
-ghost use Rattle.chv_site.specs.Faults.{HasRisen};
-ghost use Rattle.chv_site.specs.Files.{settled, KeepsFiles, KeepsOthers};
-ghost use Rattle.chv_site.specs.Images.{IsLeft};
-ghost use Rattle.chv_site.specs.During.{During};
+ghost use Rattle.std.specs.Prelude.{◌≡◌, ◌+◌, ◌≤◌, List, ℕ, length, map, true, false, Some, None, IfOk, IfSome, IsNone, OnOk, IsErrOf};
+ghost use Rattle.chv_site.specs.Effects.{OnlyReads, ChangesOnly};
+ghost use Rattle.chv_site.specs.FileIds.{table_log};
+ghost use Rattle.chv_site.specs.Files.{settled};
+ghost use Rattle.chv_site.specs.Outside.{bytes_in};
 ghost use Rattle.chv_commit.specs.Commits.{commit_spelling, IsCommit};
-ghost use Rattle.chv_commit.specs.Replays.{taken};
+ghost use Rattle.chv_commit.specs.Replays.{no_state, taken};
 ghost use Rattle.chv_commit.specs.declared.commit.Commit.{Commit as SomeCommit};
 ghost use Rattle.chv_gate.specs.GateLog.{HasFrames, begun};
-ghost use Rattle.chv_gate.specs.Crashes.{IsLeftWith, LeavesFrames};
+ghost use Rattle.chv_gate.specs.Crashes.{Leaves, LeavesFrames};
 ghost use Rattle.chv_part.specs.declared.damage.Damage.{Damage};
-ghost use Rattle.chv_part.specs.Books.{Book, no_book};
+ghost use Rattle.chv_part.specs.Books.{AreColumns, Book, no_book};
+ghost use Rattle.chv_part.specs.Forms.{form_of};
 ghost use Rattle.chv_catalog.specs.Schemas.{kinds_of};
 ghost use Rattle.chv_sip.specs.BlockIds.{last_ids};
 ghost use Rattle.chv_table.specs.Damage.{IsLogDamage};
-ghost use Rattle.chv_table.specs.Opening.{ReadsCommit, TakesCommit, LacksCommit, log_fault_of};
-ghost use Rattle.chv_table.specs.Tables.{AreColumns, form_of, held_state, IsTableOf, IsWithin, IsPlaced, HoldsCommits, HoldsBook, SettlesBook};
+ghost use Rattle.chv_table.specs.Faults.{log_fault_of};
+ghost use Rattle.chv_table.specs.Opening.{Opens, ReadsCommit, TakesCommit, LacksCommit};
+ghost use Rattle.chv_table.specs.Tables.{held_state, IsTableOf, IsWithin, IsPlaced, HoldsCommits, HoldsBook, SettlesBook};
 
 use crate::{PutFault, Table, TableFault};
 use chv_catalog::TableDef;
@@ -36,20 +38,15 @@ pub fn begin_table<W: Site>(
     def: &TableDef,
 ) -> Result<Table, PutFault>
     requires columns { AreColumns (kinds_of def.now) }
-    ensures within { IfOk result (λ table. IsWithin table × IsTableOf number def.now table) }
-    ensures placed { W.tells → IfOk result (λ table. IsPlaced table (W.state site.new)) }
-    ensures begun { W.tells → OnOk result (W.state site.new (record { table = number; part = 0 })
-        ≡ settled (begun (W.state site.old (record { table = number; part = 0 })).bytes)) }
-    ensures book { W.tells → (W.state site.old (record { table = number; part = 0 })).most ≤ 1
-        → IfOk result (λ table. HoldsBook table (W.state site.new) no_book) }
+    ensures fresh { IfOk result (λ table. IsWithin table × IsTableOf number def.now table × (held_state table ≡ no_state)) }
+    ensures placed { W.tells → IfOk result (λ table. IsPlaced table (W.outside site.new).files) }
+    ensures begun { W.tells → OnOk result ((W.outside site.new).files (table_log number) ≡ settled (begun (bytes_in (W.outside site.old) (table_log number)))) }
+    ensures book { W.tells → ((W.outside site.old).files (table_log number)).most ≤ 1 → IfOk result (λ table. HoldsBook table (W.outside site.new).files no_book) }
     // Of a log of which a crash left at most one byte before, a crash at any moment of the call leaves no more.
-    ensures during { W.tells → (W.state site.old (record { table = number; part = 0 })).most ≤ 1 → During W.moment W.left_since site.old site.new
-        (IsLeftWith (record { table = number; part = 0 }) (λ bytes. length bytes ≤ 1) (W.state site.old) (W.said site.old)) }
-    ensures others { W.tells → KeepsOthers (record { table = number; part = 0 }) (W.state site.old) (W.state site.new) }
-    ensures said { W.tells → W.said site.new ≡ W.said site.old }
-    ensures faults { W.disk_faults site.old ≤ W.disk_faults site.new }
-    ensures failed { IsErrOf result PutFault.Failed → HasRisen (W.disk_faults site.old) (W.disk_faults site.new) }
-    ensures other_faults { W.say_faults site.new ≡ W.say_faults site.old }
+    ensures during { W.tells → ((W.outside site.old).files (table_log number)).most ≤ 1 → Leaves (table_log number) (λ bytes. length bytes ≤ 1) (W.outside site.old) (W.outside site.new) }
+    // For every answer a log of two bytes or more keeps its bytes.
+    ensures kept { W.tells → 2 ≤ length (bytes_in (W.outside site.old) (table_log number)) → bytes_in (W.outside site.new) (table_log number) ≡ bytes_in (W.outside site.old) (table_log number) }
+    ensures keeps { ChangesOnly W.tells (IsErrOf result PutFault.Failed) (table_log number) (W.outside site.old) (W.outside site.new) }
 {
     let kinds = def.kinds(alloc)?;
     let key = def.key.copy(alloc)?;
@@ -58,6 +55,7 @@ pub fn begin_table<W: Site>(
     begin(site, file)?;
     Ok(Table {
         number,
+        engine: def.engine,
         kinds,
         key,
         log: Log::at(file, 0),
@@ -79,22 +77,19 @@ pub fn open_table<W: Site>(
 ) -> Result<Table, TableFault>
     requires columns { AreColumns (kinds_of def.now) }
     ensures within { IfOk result (λ table. IsWithin table × IsTableOf number def.now table) }
-    ensures placed { W.tells → IfOk result (λ table. IsPlaced table (W.state site.new)) }
+    ensures placed { W.tells → IfOk result (λ table. IsPlaced table (W.outside site.new).files) }
     // It holds what the commits of its log say, which is not damaged.
-    ensures commits { W.tells → IfOk result (λ table. (commits : List SomeCommit) × HoldsCommits table (W.state site.new) commits
-        × HasFrames (map commit_spelling commits) (W.state site.old (record { table = number; part = 0 })).bytes) }
-    ensures book { W.tells → IfOk result (λ table. (book : Book) → SettlesBook number (form_of def.now) (W.state site.old) book → HoldsBook table (W.state site.new) book) }
+    ensures commits { W.tells → IfOk result (λ table. (commits : List SomeCommit) × HoldsCommits table (W.outside site.new).files commits
+        × HasFrames (map commit_spelling commits) (bytes_in (W.outside site.old) (table_log number))) }
+    ensures book { W.tells → (book : Book) → SettlesBook number (form_of def.now) (W.outside site.old).files book → Opens result number (form_of def.now) book (W.outside site.old) (W.outside site.new) }
     ensures damaged { W.tells → (damage : Damage) → IsErrOf result (TableFault.Damaged damage)
-        → IsLogDamage number def.now.window (W.state site.old (record { table = number; part = 0 })).bytes damage }
-    // A crash at any moment of the call leaves the frames of the log from before it.
-    ensures during { W.tells → (payloads : List (List ℕ)) → LeavesFrames payloads (W.state site.old (record { table = number; part = 0 }))
-        → During W.moment W.left_since site.old site.new
-        (IsLeftWith (record { table = number; part = 0 }) (HasFrames payloads) (W.state site.old) (W.said site.old)) }
-    ensures others { W.tells → KeepsOthers (record { table = number; part = 0 }) (W.state site.old) (W.state site.new) }
-    ensures said { W.tells → W.said site.new ≡ W.said site.old }
-    ensures faults { W.disk_faults site.old ≤ W.disk_faults site.new }
-    ensures failed { IsErrOf result TableFault.Failed → HasRisen (W.disk_faults site.old) (W.disk_faults site.new) }
-    ensures other_faults { W.say_faults site.new ≡ W.say_faults site.old }
+        → IsLogDamage number def.now.window (bytes_in (W.outside site.old) (table_log number)) damage }
+    // Whatever its parts are, a crash at any moment of the call leaves the frames of the log from before it.
+    ensures during { W.tells → (payloads : List (List ℕ)) → LeavesFrames payloads ((W.outside site.old).files (table_log number))
+        → Leaves (table_log number) (HasFrames payloads) (W.outside site.old) (W.outside site.new) }
+    // For every answer a log of two bytes or more keeps its bytes.
+    ensures kept { W.tells → 2 ≤ length (bytes_in (W.outside site.old) (table_log number)) → bytes_in (W.outside site.new) (table_log number) ≡ bytes_in (W.outside site.old) (table_log number) }
+    ensures keeps { ChangesOnly W.tells (IsErrOf result TableFault.Failed) (table_log number) (W.outside site.old) (W.outside site.new) }
 {
     let file = FileId::table_log(number);
     // All ids that are to be kept have their room before a file is touched.
@@ -118,18 +113,13 @@ fn take_commit<W: Site>(
     gate: u64,
     replay: &mut Replay,
 ) -> Result<Option<u64>, TableFault>
-    ensures read { W.tells → IfOk result (λ read. ReadsCommit gate replay.old.window replay.old.state (W.state site.old log).bytes read replay.new.state) }
+    ensures read { W.tells → IfOk result (λ read. ReadsCommit gate replay.old.window replay.old.state (bytes_in (W.outside site.old) log) read replay.new.state) }
     ensures damaged { W.tells → (damage : Damage) → IsErrOf result (TableFault.Damaged damage)
-        → (damage ≡ Damage.Log log.table (gate + 1)) × LacksCommit gate replay.old.window replay.old.state (W.state site.old log).bytes }
+        → (damage ≡ Damage.Log log.table (gate + 1)) × LacksCommit gate replay.old.window replay.old.state (bytes_in (W.outside site.old) log) }
     ensures forward { IfOk result (λ read. IfSome read (λ next. TakesCommit gate replay.old.window replay.old.state next replay.new.state)) }
     ensures end { IfOk result (λ read. IsNone read → replay.new ≡ replay.old) }
     ensures window { replay.new.window ≡ replay.old.window }
-    ensures during { W.tells → During W.moment W.left_since site.old site.new (IsLeft (W.state site.old) (W.said site.old)) }
-    ensures files { W.tells → KeepsFiles (W.state site.old) (W.state site.new) }
-    ensures said { W.tells → W.said site.new ≡ W.said site.old }
-    ensures faults { W.disk_faults site.old ≤ W.disk_faults site.new }
-    ensures failed { IsErrOf result TableFault.Failed → HasRisen (W.disk_faults site.old) (W.disk_faults site.new) }
-    ensures other_faults { W.say_faults site.new ≡ W.say_faults site.old }
+    ensures keeps { OnlyReads W.tells (IsErrOf result TableFault.Failed) (W.outside site.old) (W.outside site.new) }
 {
     match step(alloc, site, log, gate) {
         Ok(GateRead::End { .. }) => Ok(None),
@@ -173,7 +163,7 @@ fn replayed_table(
     requires window { replay.window ≡ def.now.window }
     requires ids { length replay.state.ids ≤ replay.window }
     ensures table { IfOk result (λ table. IsTableOf number def.now table) }
-    ensures log { IfOk result (λ table. table.log ≡ record { file = record { table = number; part = 0 }; gate = gate }) }
+    ensures log { IfOk result (λ table. table.log ≡ record { file = table_log number; gate = gate }) }
     ensures state { IfOk result (λ table. held_state table ≡ replay.state) }
 {
     let kinds = def.kinds(alloc)?;
@@ -181,6 +171,7 @@ fn replayed_table(
     let window = window_of(alloc, def.window, replay.ids(alloc)?.as_slice())?;
     Ok(Table {
         number,
+        engine: def.engine,
         kinds,
         key,
         log: Log::at(FileId::table_log(number), gate),

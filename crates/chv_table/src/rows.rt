@@ -1,18 +1,16 @@
 // The rows of a table.
 ghost use Rattle.std.specs.Prelude.{◌≡◌, ◌≤◌, ℕ, IfOk, OnOk, IsErrOf};
-ghost use Rattle.chv_site.specs.Faults.{HasRisen};
-ghost use Rattle.chv_site.specs.Files.{KeepsFiles};
-ghost use Rattle.chv_site.specs.Images.{IsLeft};
-ghost use Rattle.chv_site.specs.During.{During};
-ghost use Rattle.chv_block.specs.Spellings.{AllAreOf};
-ghost use Rattle.chv_merge.specs.NormalForms.{normal_form};
 ghost use Rattle.std.specs.List.{flat_map};
+ghost use Rattle.chv_site.specs.Effects.{OnlyReads};
+ghost use Rattle.chv_site.specs.FileIds.{part_of};
+ghost use Rattle.chv_site.specs.Outside.{bytes_in};
 ghost use Rattle.chv_commit.specs.declared.part_row.PartRow.{PartRow as LivePart};
-ghost use Rattle.chv_part.specs.Books.{Book, rows_in, part_rows};
-ghost use Rattle.chv_part.specs.Parts.{part_file};
+ghost use Rattle.chv_part.specs.Books.{AreColumns, TableForm, Book, normal_rows, rows_in, part_rows};
+ghost use Rattle.chv_part.specs.Parts.{IsPartFile};
 ghost use Rattle.chv_part.specs.declared.damage.Damage.{Damage};
 ghost use Rattle.chv_table.specs.Damage.{IsDamageOfPart, IsPartDamage, ArePartsWhole};
-ghost use Rattle.chv_table.specs.Tables.{AreColumns, IsWithin, HoldsBook};
+ghost use Rattle.chv_table.specs.Faults.{part_fault_of};
+ghost use Rattle.chv_table.specs.Tables.{IsWithin, HoldsBook, held_form, held_state};
 
 use crate::{Table, TableFault};
 use chv_merge::normal;
@@ -27,16 +25,11 @@ impl Table {
     /// Damage is told of the first live part that is damaged.
     pub fn rows<W: Site>(&self, alloc: Global, site: &mut W) -> Result<Block, TableFault>
         requires within { IsWithin self.now }
-        ensures rows { W.tells → IfOk result (λ rows. (book : Book) → HoldsBook self.now (W.state site.old) book → rows ≡ normal_form self.now.key (rows_in book)) }
-        ensures whole { W.tells → OnOk result (ArePartsWhole self.now.number self.now.kinds self.now.layout.items (λ f. (W.state site.old f).bytes)) }
+        ensures rows { W.tells → IfOk result (λ rows. (book : Book) → HoldsBook self.now (W.outside site.old).files book → rows ≡ normal_rows (held_form self.now) (rows_in book)) }
+        ensures whole { W.tells → OnOk result (ArePartsWhole self.now.number (held_form self.now) (held_state self.now).layout (bytes_in (W.outside site.old))) }
         ensures damaged { W.tells → (damage : Damage) → IsErrOf result (TableFault.Damaged damage)
-            → IsPartDamage self.now.number self.now.kinds self.now.layout.items (λ f. (W.state site.old f).bytes) damage }
-        ensures files { W.tells → KeepsFiles (W.state site.old) (W.state site.new) }
-        ensures said { W.tells → W.said site.new ≡ W.said site.old }
-        ensures during { W.tells → During W.moment W.left_since site.old site.new (IsLeft (W.state site.old) (W.said site.old)) }
-        ensures faults { W.disk_faults site.old ≤ W.disk_faults site.new }
-        ensures failed { IsErrOf result TableFault.Failed → HasRisen (W.disk_faults site.old) (W.disk_faults site.new) }
-        ensures other_faults { W.say_faults site.new ≡ W.say_faults site.old }
+            → IsPartDamage self.now.number (held_form self.now) (held_state self.now).layout (bytes_in (W.outside site.old)) damage }
+        ensures keeps { OnlyReads W.tells (IsErrOf result TableFault.Failed) (W.outside site.old) (W.outside site.new) }
     {
         let rows = self.read_parts(alloc, site)?;
         Ok(normal(&self.key, Block::of_items(rows))?)
@@ -45,17 +38,12 @@ impl Table {
     // The rows of all live parts, part by part.
     fn read_parts<W: Site>(&self, alloc: Global, site: &mut W) -> Result<Vec<Row>, TableFault>
         requires columns { AreColumns self.now.kinds }
-        ensures rows { W.tells → IfOk result (λ rows. (book : Book) → HoldsBook self.now (W.state site.old) book
-            → rows.items ≡ flat_map (λ (row : LivePart). part_rows self.now.key book row.lo row.hi) self.now.layout.items) }
-        ensures whole { W.tells → OnOk result (ArePartsWhole self.now.number self.now.kinds self.now.layout.items (λ f. (W.state site.old f).bytes)) }
+        ensures rows { W.tells → IfOk result (λ rows. (book : Book) → HoldsBook self.now (W.outside site.old).files book
+            → rows.items ≡ flat_map (λ (row : LivePart). part_rows (held_form self.now) book row.lo row.hi) self.now.layout.items) }
+        ensures whole { W.tells → OnOk result (ArePartsWhole self.now.number (held_form self.now) self.now.layout.items (bytes_in (W.outside site.old))) }
         ensures damaged { W.tells → (damage : Damage) → IsErrOf result (TableFault.Damaged damage)
-            → IsPartDamage self.now.number self.now.kinds self.now.layout.items (λ f. (W.state site.old f).bytes) damage }
-        ensures files { W.tells → KeepsFiles (W.state site.old) (W.state site.new) }
-        ensures said { W.tells → W.said site.new ≡ W.said site.old }
-        ensures during { W.tells → During W.moment W.left_since site.old site.new (IsLeft (W.state site.old) (W.said site.old)) }
-        ensures faults { W.disk_faults site.old ≤ W.disk_faults site.new }
-        ensures failed { IsErrOf result TableFault.Failed → HasRisen (W.disk_faults site.old) (W.disk_faults site.new) }
-        ensures other_faults { W.say_faults site.new ≡ W.say_faults site.old }
+            → IsPartDamage self.now.number (held_form self.now) self.now.layout.items (bytes_in (W.outside site.old)) damage }
+        ensures keeps { OnlyReads W.tells (IsErrOf result TableFault.Failed) (W.outside site.old) (W.outside site.new) }
     {
         let mut rows = Vec::new(alloc);
         for row in self.layout.as_slice() {
@@ -75,16 +63,10 @@ fn read_live_part<W: Site>(
     kinds: &Kinds,
 ) -> Result<Block, TableFault>
     requires columns { AreColumns kinds.now }
-    ensures kinds { IfOk result (λ rows. AllAreOf kinds.now rows) }
-    ensures read { W.tells → IfOk result (λ rows. (W.state site.old (record { table = table; part = part })).bytes ≡ part_file kinds.now rows) }
-    ensures damaged { W.tells → (damage : Damage) → IsErrOf result (TableFault.Damaged damage)
-        → IsDamageOfPart table kinds.now part (W.state site.old (record { table = table; part = part })).bytes damage }
-    ensures files { W.tells → KeepsFiles (W.state site.old) (W.state site.new) }
-    ensures said { W.tells → W.said site.new ≡ W.said site.old }
-    ensures during { W.tells → During W.moment W.left_since site.old site.new (IsLeft (W.state site.old) (W.said site.old)) }
-    ensures faults { W.disk_faults site.old ≤ W.disk_faults site.new }
-    ensures failed { IsErrOf result TableFault.Failed → HasRisen (W.disk_faults site.old) (W.disk_faults site.new) }
-    ensures other_faults { W.say_faults site.new ≡ W.say_faults site.old }
+    ensures read { W.tells → IfOk result (λ rows. (form : TableForm) → form.kinds ≡ kinds.now → IsPartFile form rows (bytes_in (W.outside site.old) (part_of table part))) }
+    ensures damaged { W.tells → (damage : Damage) → IsErrOf result (TableFault.Damaged damage) → (form : TableForm) → form.kinds ≡ kinds.now
+        → IsDamageOfPart table form part (bytes_in (W.outside site.old) (part_of table part)) damage }
+    ensures keeps { OnlyReads W.tells (IsErrOf result TableFault.Failed) (W.outside site.old) (W.outside site.new) }
 {
     match read_part(alloc, site, FileId::part(table, part), kinds) {
         Ok(rows) => Ok(rows),
@@ -94,10 +76,7 @@ fn read_live_part<W: Site>(
 
 // Why a part was not read, as a fault of its table.
 fn part_fault(table: u32, part: u64, fault: PartFault) -> TableFault
-    ensures failed { fault ≡ PartFault.Failed → result ≡ TableFault.Failed }
-    ensures hash { (kept found : ℕ) → fault ≡ PartFault.Hash kept found → result ≡ TableFault.Damaged (Damage.PartHash table part kept found) }
-    ensures shape { fault ≡ PartFault.Shape → result ≡ TableFault.Damaged (Damage.PartShape table part) }
-    ensures no_memory { fault ≡ PartFault.NoMemory → result ≡ TableFault.NoMemory }
+    ensures { result ≡ part_fault_of table part fault }
 {
     match fault {
         PartFault::Failed => TableFault::Failed,

@@ -1,18 +1,18 @@
 // One table while a run goes on.
-ghost use Rattle.std.specs.Prelude.{◌≡◌, ◌↔◌, ◌+◌, ◌*◌, ◌<◌, ◌≤◌, ◌^◌, ℕ, [], ◌∷◌, length, IfOk, OnOk, OnErr};
+ghost use Rattle.std.specs.Prelude.{◌≡◌, ◌↔◌, ◌+◌, ◌*◌, ◌<◌, ◌≤◌, ◌^◌, ℕ, List, [], ◌∷◌, length, IfOk, OnOk, IsErr};
 ghost use Rattle.std.specs.List.{Contains};
-ghost use Rattle.chv_site.specs.Faults.{IsCounted};
-ghost use Rattle.chv_site.specs.During.{During};
 ghost use Rattle.chv_commit.specs.Replays.{added};
+ghost use Rattle.chv_commit.specs.declared.commit.Commit.{Commit as SomeCommit};
 ghost use Rattle.chv_part.specs.Books.{Entry, Book, appended, arrived};
-ghost use Rattle.chv_table.specs.Tables.{IsWithin, IsPlaced, HoldsBook, KeepsTables, Brings, DeliveryLeft, held_form, held_state, spare, HasRoomFor};
+ghost use Rattle.chv_table.specs.Delivering.{ChangesTable, Brings, Turns, commits_after, state_after};
+ghost use Rattle.chv_table.specs.Tables.{IsWithin, IsPlaced, Takes, HoldsBook, HoldsCommits, KeepsHeld, held_form, held_state, spare, HasRoomFor};
 
 use chv_commit::{PartRow, frame_of_one};
 use chv_gate::Log;
 use chv_part::write_part;
 use chv_sip::BlockId;
 use chv_site::{Failed, FileId, Site};
-use chv_types::{Kinds, Places};
+use chv_types::{Engine, Kinds, Places};
 use chv_window::Window;
 use std::alloc::AllocError;
 
@@ -30,6 +30,8 @@ pub enum Delivered {
 pub struct Table {
     /// Its number, counted from 1.
     pub(crate) number: u32,
+    /// What a merge does with its rows.
+    pub(crate) engine: Engine,
     /// The kinds of its columns.
     pub(crate) kinds: Kinds,
     /// The places of its sorting key's columns, in key order.
@@ -48,25 +50,24 @@ pub struct Table {
 impl Table {
     /// How many entries the table has.
     pub fn entries(&self) -> u64
-        ensures { result ≡ self.now.entries }
+        ensures { result ≡ (held_state self.now).entries }
     {
         self.entries
     }
 
     /// The live parts, each behind the entries of the one before.
     pub fn parts(&self) -> &[PartRow]
-        ensures { result.now ≡ self.now.layout.items }
+        ensures { result.now ≡ (held_state self.now).layout }
     {
         self.layout.as_slice()
     }
 
-    /// Makes room in memory for so many deliveries. An `Err` leaves the table as it was.
+    /// Makes room in memory for so many deliveries. After an `Err` the table may be used as before.
     pub fn reserve(&mut self, count: u64) -> Result<(), AllocError>
         requires few { count ≤ 2 ^ 32 }
         ensures room { OnOk result (count ≤ spare self.new) }
-        ensures same { self.new ≡ record self.old { layout = self.new.layout } }
-        ensures layout { self.new.layout.items ≡ self.old.layout.items }
-        ensures err { OnErr result (spare self.new ≡ spare self.old) }
+        ensures kept { spare self.old ≤ spare self.new }
+        ensures same { KeepsHeld self.old self.new }
     {
         self.layout.reserve(count as usize)
     }
@@ -81,25 +82,19 @@ impl Table {
         rows: u64,
         encoded: &[u8],
     ) -> Result<Delivered, Failed>
-        requires within { IsWithin self.old }
-        requires room { HasRoomFor 1 self.old }
-        requires placed { W.tells → IsPlaced self.old (W.state site.old) }
-        ensures delivered { W.tells → OnOk result ((book : Book) (entry : Entry) → Brings self.old id rows encoded.now entry
-            → HoldsBook self.old (W.state site.old) book → HoldsBook self.new (W.state site.new) (arrived self.old.window.size entry book)) }
-        ensures skipped { IfOk result (λ delivered. (delivered ≡ Delivered.Skipped) ↔ Contains self.old.window.ids id) }
-        ensures nothing { IfOk result (λ delivered. delivered ≡ Delivered.Skipped → (self.new ≡ self.old) × (site.new ≡ site.old)) }
-        ensures written { IfOk result (λ delivered. delivered ≡ Delivered.Written → self.new.entries ≡ self.old.entries + 1) }
-        ensures room { OnOk result ((count : ℕ) → HasRoomFor (count + 1) self.old → HasRoomFor count self.new) }
-        ensures within { OnOk result (IsWithin self.new) }
-        ensures placed { W.tells → OnOk result (IsPlaced self.new (W.state site.new)) }
-        ensures same { (self.new.number ≡ self.old.number) × (held_form self.new ≡ held_form self.old) }
-        ensures others { W.tells → KeepsTables self.old.number (W.state site.old) (W.state site.new) }
-        ensures said { W.tells → W.said site.new ≡ W.said site.old }
+        requires takes { Takes W.tells 1 self.old (W.outside site.old) }
         // A crash at any moment of the call leaves the table's book from before it or after it.
-        ensures during { W.tells → (book : Book) (entry : Entry) → Brings self.old id rows encoded.now entry → HoldsBook self.old (W.state site.old) book
-            → During W.moment W.left_since site.old site.new (DeliveryLeft self.old book (arrived self.old.window.size entry book) (W.state site.old) (W.said site.old)) }
-        ensures failed { IsCounted (W.disk_faults site.old) (W.disk_faults site.new) result }
-        ensures other_faults { W.say_faults site.new ≡ W.say_faults site.old }
+        ensures turned { W.tells → (book : Book) (entry : Entry) → Brings self.old id rows encoded.now entry → HoldsBook self.old (W.outside site.old).files book
+            → Turns result self.old self.new book (arrived (held_form self.old).window entry book) (W.outside site.old) (W.outside site.new) }
+        // And whatever its parts are, the log has the commit of the block.
+        ensures commits { W.tells → IfOk result (λ answer. (commits : List SomeCommit) → HoldsCommits self.old (W.outside site.old).files commits
+            → HoldsCommits self.new (W.outside site.new).files (commits_after answer self.old rows id commits)) }
+        ensures answer { IfOk result (λ answer. ((answer ≡ Delivered.Skipped) ↔ Contains (held_state self.old).ids id) × (held_state self.new ≡ state_after answer self.old rows id)) }
+        ensures nothing { IfOk result (λ answer. answer ≡ Delivered.Skipped → (self.new ≡ self.old) × (site.new ≡ site.old)) }
+        ensures room { OnOk result ((count : ℕ) → HasRoomFor (count + 1) self.old → HasRoomFor count self.new) }
+        ensures ready { OnOk result (IsWithin self.new × (W.tells → IsPlaced self.new (W.outside site.new).files)) }
+        ensures same { (self.new.number ≡ self.old.number) × (held_form self.new ≡ held_form self.old) }
+        ensures keeps { ChangesTable W.tells (IsErr result) self.old.number (held_state self.old).next_part (W.outside site.old) (W.outside site.new) }
     {
         if self.window.has(id) {
             return Ok(Delivered::Skipped);
@@ -116,23 +111,17 @@ impl Table {
         rows: u64,
         encoded: &[u8],
     ) -> Result<(), Failed>
-        requires within { IsWithin self.old }
-        requires room { HasRoomFor 1 self.old }
-        requires placed { W.tells → IsPlaced self.old (W.state site.old) }
-        requires new { Contains self.old.window.ids id → ⊥ }
-        ensures written { W.tells → OnOk result ((book : Book) (entry : Entry) → Brings self.old id rows encoded.now entry
-            → HoldsBook self.old (W.state site.old) book → HoldsBook self.new (W.state site.new) (appended entry book)) }
-        ensures entries { OnOk result (self.new.entries ≡ self.old.entries + 1) }
+        requires takes { Takes W.tells 1 self.old (W.outside site.old) }
+        requires new { Contains (held_state self.old).ids id → ⊥ }
+        ensures turned { W.tells → (book : Book) (entry : Entry) → Brings self.old id rows encoded.now entry → HoldsBook self.old (W.outside site.old).files book
+            → Turns result self.old self.new book (appended entry book) (W.outside site.old) (W.outside site.new) }
+        ensures commits { W.tells → OnOk result ((commits : List SomeCommit) → HoldsCommits self.old (W.outside site.old).files commits
+            → HoldsCommits self.new (W.outside site.new).files (commits_after Delivered.Written self.old rows id commits)) }
+        ensures state { OnOk result (held_state self.new ≡ state_after Delivered.Written self.old rows id) }
         ensures room { OnOk result ((count : ℕ) → HasRoomFor (count + 1) self.old → HasRoomFor count self.new) }
-        ensures within { OnOk result (IsWithin self.new) }
-        ensures placed { W.tells → OnOk result (IsPlaced self.new (W.state site.new)) }
+        ensures ready { OnOk result (IsWithin self.new × (W.tells → IsPlaced self.new (W.outside site.new).files)) }
         ensures same { (self.new.number ≡ self.old.number) × (held_form self.new ≡ held_form self.old) }
-        ensures others { W.tells → KeepsTables self.old.number (W.state site.old) (W.state site.new) }
-        ensures said { W.tells → W.said site.new ≡ W.said site.old }
-        ensures during { W.tells → (book : Book) (entry : Entry) → Brings self.old id rows encoded.now entry → HoldsBook self.old (W.state site.old) book
-            → During W.moment W.left_since site.old site.new (DeliveryLeft self.old book (appended entry book) (W.state site.old) (W.said site.old)) }
-        ensures failed { IsCounted (W.disk_faults site.old) (W.disk_faults site.new) result }
-        ensures other_faults { W.say_faults site.new ≡ W.say_faults site.old }
+        ensures keeps { ChangesTable W.tells (IsErr result) self.old.number (held_state self.old).next_part (W.outside site.old) (W.outside site.new) }
     {
         // The part first: a commit that a crash left without its part would be damage.
         let part = FileId::part(self.number, self.next_part);
@@ -145,9 +134,9 @@ impl Table {
 
     // Notes a block that was written. It takes no memory.
     fn note(&mut self, id: BlockId, rows: u64)
-        requires counted { self.old.next_part + length self.old.layout.items ≤ 8 + 2 * self.old.entries }
+        requires counted { self.old.next_part + length self.old.layout.items ≤ 2 ^ 62 + 2 * self.old.entries }
         requires room { HasRoomFor 1 self.old }
-        ensures state { held_state self.new ≡ added self.old.window.size self.old.next_part rows (id ∷ []) (held_state self.old) }
+        ensures state { held_state self.new ≡ state_after Delivered.Written self.old rows id }
         ensures size { self.new.window.size ≡ self.old.window.size }
         ensures same { self.new ≡ record self.old { layout = self.new.layout; entries = self.new.entries; next_part = self.new.next_part; window = self.new.window } }
         ensures room { spare self.old ≤ spare self.new + 1 }

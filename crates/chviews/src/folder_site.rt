@@ -1,9 +1,8 @@
 // The real site.
 ghost use Rattle.std.specs.Prelude.{◌≡◌, []};
 ghost use Rattle.std.proofs.Common.{refl};
-ghost use Rattle.chv_site.specs.Files.{settled};
-ghost use Rattle.chv_site.specs.Images.{IsLeft};
 ghost use Rattle.chv_site.specs.Laws.{settled_lengths};
+ghost use Rattle.chviews.specs.Untold.{untold};
 
 use crate::count::counted;
 use crate::folder::Folder;
@@ -52,17 +51,7 @@ where
     // No contract of std says what a file of the system holds, so nothing is claimed of it here.
     ghost tells = { ⊥ };
 
-    ghost state = { λ _ _. settled [] };
-
-    ghost said = { λ _. [] };
-
-    ghost moment = { λ _. 0 };
-
-    ghost left_since = { λ _ _ image text. IsLeft (λ _. settled []) [] image text };
-
-    ghost disk_faults = { λ s. s.disk_faults };
-
-    ghost say_faults = { λ s. s.say_faults };
+    ghost outside = { λ s. untold s.disk_faults s.say_faults };
 
     fn size(&mut self, f: FileId) -> Result<u64, Failed> {
         let answer = self.folder.size(f);

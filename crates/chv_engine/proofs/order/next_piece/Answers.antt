@@ -1,6 +1,6 @@
 -- A client's next piece is the next of all, and behind its last one comes the first of the client behind it.
 use Rattle.std.proofs.Common.{◌≡◌, ◌<◌, ℕ, [], ◌∙◌, sym, subst, drop, arith}
-use Rattle.chv_engine.specs.Script.{of_client, left_at}
+use Rattle.chv_history.specs.Script.{of_client, left_at}
 use Rattle.chv_engine.proofs.OrderLemmas.{left_at-next, left_at-later, left_at-last}
 use Rattle.chv_engine.proofs.order.next_piece.Goals as goal
 

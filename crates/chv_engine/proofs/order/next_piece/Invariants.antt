@@ -1,6 +1,6 @@
 -- What is left at the place that is reached is what is left at the first.
 use Rattle.std.proofs.Common.{◌≡◌, ◌-◌, ◌<◌, ◌≤◌, length}
-use Rattle.chv_engine.specs.Script.{left_at}
+use Rattle.chv_history.specs.Script.{left_at}
 use Rattle.chv_engine.proofs.order.next_piece.Given as goal
 
 abbrev pub invariant-clients : goal.invariant-clients

@@ -12,4 +12,5 @@ returns-then-count-eq0-clause-script g c = λ tells.
 pub returns-then-count-len-clause-err : goal.returns-then-count-len-clause-err
 returns-then-count-len-clause-err g c = λ tells.
     pulled_too_much (g.S.Source.left c.args.source.now) c.pulls.script.items (g.S.Source.left c.pulls.source) (g.S.Source.left c.pull.new.self) c.pull.new.buf c.in_ok-count.count
-    (c.pulls.invariant.pulled tells) (c.in_ok-count.ensures.pulled tells) (omega (arith, c.in_ok-count.ensures.within)) (omega (arith, c.if-count-len.true))
+    (c.pulls.invariant.pulled tells) (c.in_ok-count.ensures.pulled tells) c.pulls.invariant.within (omega (arith, c.in_ok-count.ensures.within)) (omega (arith, c.in_ok-count.ensures.within))
+    (omega (arith, c.if-count-len.true))

@@ -1,6 +1,7 @@
-use Rattle.std.proofs.Common.{◌≡◌, ◌+◌, ◌++◌, ℕ, length, take, drop, sym, ◌∙◌, ap, subst, arith}
+use Rattle.std.proofs.Common.{◌≡◌, ◌+◌, ◌++◌, ℕ, length, take, drop, sym, ◌∙◌, ap, subst, arith, rules}
 use Rattle.std.proofs.lemmas.List.{take_at, take_all}
 use Rattle.chv_site.specs.Images.{IsLeft}
+use Rattle.chv_site.specs.Outside.{bytes_in}
 use Rattle.chv_site.proofs.Moments.{started}
 use Rattle.chv_gate.proofs.GateLogLemmas.{length-frame_of}
 use Rattle.chv_gate.proofs.ReadingLemmas.{followed}
@@ -13,7 +14,7 @@ returns-clause-read g c tells =
     let sized : c.in_ok-payload.payload.len ≡ size = c.in_ok-payload.ensures.len in
     let long : length held ≡ size = c.fetch.auto.buf ∙ c.deref_mut.ensures.len ∙ sized in
     let count : c.in_ok-count.count ≡ size = omega (arith, sized, long, c.fetch.auto.buf, c.in_ok-count.ensures.within, c.len.ensures, c.if-count-len.false) in
-    let file = (g.W.Site.state c.args.site.now c.args.f).bytes in
+    let file = bytes_in (g.W.Site.outside c.args.site.now) c.args.f in
     let payload = take c.in_ok-payload.payload.len (held ++ drop (length held) c.in_ok-payload.payload.items) in
     let whole : payload ≡ held = take_at held (drop (length held) c.in_ok-payload.payload.items) c.in_ok-payload.payload.len (long ∙ sym sized) in
     let read : held ≡ take size (drop (c.args.gate + 5) file) =
@@ -35,17 +36,12 @@ returns-clause-forward g c =
     )
 
 -- there was no memory, and no call of the site
-pub returns-in_err-payload-clause-during : goal.returns-in_err-payload-clause-during
-returns-in_err-payload-clause-during g c tells =
-    let S = g.W.Site in
-    let site = c.args.site.now in
-    started S.moment S.left_since site (IsLeft (S.state site) (S.said site)) (λ image text left. g.met.W.Site.only_now site image text left)
-
-pub returns-in_err-count-clause-during : goal.returns-in_err-count-clause-during
-returns-in_err-count-clause-during g c tells = c.fetch.ensures.during tells
-
-pub returns-then-count-len-clause-during : goal.returns-then-count-len-clause-during
-returns-then-count-len-clause-during g c tells = c.fetch.ensures.during tells
-
-pub returns-clause-during : goal.returns-clause-during
-returns-clause-during g c tells = c.fetch.ensures.during tells
+pub returns-in_err-payload-clause-keeps : goal.returns-in_err-payload-clause-keeps
+returns-in_err-payload-clause-keeps g c =
+    let before = g.W.Site.outside c.args.site.now in
+    record {
+      files = search rules;
+      said = search rules;
+      during = λ _. started before (IsLeft before.files before.said) (λ image text left. g.met.W.Site.only_now c.args.site.now image text left);
+      counts = search rules;
+    }

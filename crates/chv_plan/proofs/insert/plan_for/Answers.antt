@@ -25,7 +25,7 @@ returns-clause-planned c =
     Brings-blocks c.args.table c.args.def.now c.args.listed.now c.args.settings.now c.args.rows.now c.as_slice-2.result.now c.in_ok-places.places.items c.deref.result.now c.as_slice.result.now
     c.in_ok-sizes.sizes blocks.0 c.in_ok-blocks.blocks.items c.in_ok-deliveries_of.field-0
     filled c.in_ok-sizes.ensures.sizes.0 (sym c.is_long.ensures ∙ c.if-is_long.false) c.requires.some (omega arith) kinds_are c.deref.ensures.value c.as_slice-2.ensures
-    blocks.1 blocks.2 c.in_ok-blocks.ensures.each c.in_ok-blocks.ensures.some (rw (← c.as_slice.ensures) at c.in_ok-deliveries_of.ensures)
+    blocks.1 blocks.2 c.in_ok-blocks.ensures.each c.in_ok-blocks.ensures.some c.in_ok-deliveries_of.ensures
 
 pub returns-in_err-sizes-clause-refused : goal.returns-in_err-sizes-clause-refused
 returns-in_err-sizes-clause-refused c =

@@ -18,7 +18,7 @@ returns-then-branch-clause-forward g c =
 
 pub returns-in-Ok-Body-clause-damaged : goal.returns-in-Ok-Body-clause-damaged
 returns-in-Ok-Body-clause-damaged g c = λ tells damage is.
-    let file = (g.W.Site.state c.args.site.now c.args.log).bytes in
+    let file = ((g.W.Site.outside c.args.site.now).files c.args.log).bytes in
     let payload = c.in-Ok-Body.payload.items in
     let read = subst (Reads c.args.gate file) c.in-Ok-Body.field-0-is (c.in-Ok-Body.ensures.read tells) in (
       cc is,

@@ -14,7 +14,7 @@ returns-in-Ok-clause-torn c =
 pub returns-in-Ok-clause-during : goal.returns-in-Ok-clause-during
 returns-in-Ok-clause-during c =
     let ended : IsEnded c.args.f (Put c.args.at c.args.bytes.now) (BeginPut c.args.at (length c.args.bytes.now)) (calls_of c.args.self.now) (calls_of c.act.new.self) = rw c.in-Ok.ensures at c.act.ensures.ended in
-    of_calls _ _ _ (ended_call c.args.f (Put c.args.at c.args.bytes.now) (BeginPut c.args.at (length c.args.bytes.now)) (calls_of c.args.self.now) (calls_of c.act.new.self) (put-Widens c.args.at c.args.bytes.now) (begin_put-Widens c.args.at (length c.args.bytes.now)) ended)
+    of_calls _ _ _ _ _ _ _ (ended_call c.args.f (Put c.args.at c.args.bytes.now) (BeginPut c.args.at (length c.args.bytes.now)) (calls_of c.args.self.now) (calls_of c.act.new.self) (put-Widens c.args.at c.args.bytes.now) (begin_put-Widens c.args.at (length c.args.bytes.now)) ended)
 
 pub returns-in-Err-clause-during : goal.returns-in-Err-clause-during
-returns-in-Err-clause-during c = of_calls _ _ _ (same_calls (calls_of c.args.self.now) (calls_of c.lack.new.self) c.lack.ensures.calls)
+returns-in-Err-clause-during c = of_calls _ _ _ _ _ _ _ (same_calls (calls_of c.args.self.now) (calls_of c.lack.new.self) c.lack.ensures.calls)

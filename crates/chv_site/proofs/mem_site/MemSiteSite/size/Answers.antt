@@ -1,9 +1,10 @@
+use Rattle.std.proofs.Common.{rules}
 use Rattle.chv_site.specs.MemSite.{calls_of}
-use Rattle.chv_site.proofs.Clock.{of_calls, no_call}
+use Rattle.chv_site.proofs.Effects.{only_read}
 use Rattle.chv_site.proofs.mem_site.MemSiteSite.size.Goals as goal
 
-pub returns-in_err-begin_on_files-clause-during : goal.returns-in_err-begin_on_files-clause-during
-returns-in_err-begin_on_files-clause-during c = of_calls _ _ _ (no_call (calls_of c.args.self.now) _ (λ image text left. left))
+pub returns-in_err-begin_on_files-clause-keeps : goal.returns-in_err-begin_on_files-clause-keeps
+returns-in_err-begin_on_files-clause-keeps c = only_read (calls_of c.args.self.now) _ _ _ _ _ (search rules)
 
-pub returns-clause-during : goal.returns-clause-during
-returns-clause-during c = of_calls _ _ _ (no_call (calls_of c.args.self.now) _ (λ image text left. left))
+pub returns-clause-keeps : goal.returns-clause-keeps
+returns-clause-keeps c = only_read (calls_of c.args.self.now) _ _ _ _ _ (search rules)

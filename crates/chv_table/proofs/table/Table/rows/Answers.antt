@@ -2,6 +2,7 @@
 use Rattle.std.proofs.Common.{◌≡◌, ◌∙◌, Err, sym, ap}
 use Rattle.std.proofs.lemmas.Result.{err_from_is_err_and}
 use Rattle.chv_part.proofs.BookRowLemmas.{rows_of_parts-normal_form}
+use Rattle.chv_table.specs.Tables.{held_form}
 use Rattle.chv_table.specs.declared.fault.TableFault.{TableFault}
 use Rattle.chv_table.proofs.table.Table.rows.Goals as goal
 
@@ -15,4 +16,4 @@ pub returns-clause-rows : goal.returns-clause-rows
 returns-clause-rows g c = λ tells book held.
     let table = c.args.self.now in
     rw (c.in_ok-normal.ensures, c.of_items.ensures, c.in_ok-rows.ensures.rows tells book held)
-    (rows_of_parts-normal_form table.key book table.layout.items held.lawful.runs held.describes.layout)
+    (rows_of_parts-normal_form (held_form table) book table.layout.items held.lawful.runs held.describes.layout)

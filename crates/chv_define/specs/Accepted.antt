@@ -1,0 +1,68 @@
+-- What a catalog has: accepted CREATE statements, and what they define.
+use Rattle.std.specs.Prelude.{ℕ, ◌≡◌, Bool, true, false, List, [], ◌∷◌, ◌++◌, map, Ok}
+use Rattle.std.specs.List.{flat_map, list_all}
+use Rattle.chv_ast.specs.Formed.{WellFormed}
+use Rattle.chv_ast.specs.declared.statement.EngineWord.TheVariants as engine
+use Rattle.chv_ast.specs.declared.statement.KindWord.{KindWord}
+use Rattle.chv_ast.specs.declared.statement.KindWord.TheVariants as kind
+use Rattle.chv_ast.specs.declared.statement.Statement.{Statement}
+use Rattle.chv_ast.specs.declared.statement.Statement.TheVariants as statement
+use Rattle.chv_catalog.specs.declared.table_def.TableDef.{TableDef}
+use Rattle.chv_define.specs.Definitions.{defined}
+use Rattle.chv_print.specs.StatementTexts.{statement_text}
+
+-- what a CREATE statement defines
+pub data Definition : Type 0 where
+  Table : TableDef → Definition
+
+-- an accepted CREATE statement, and what it defines
+pub record Accepted : Type 0 where
+  pub statement : Statement
+  pub definition : Definition
+
+-- the table of a definition, where it is one
+abbrev pub tables_in : Definition → List TableDef
+tables_in (Table def) = def ∷ []
+
+-- the tables of a schema, in the order of creation
+abbrev pub tables_of : List Accepted → List TableDef
+tables_of schema = flat_map (λ (accepted : Accepted). tables_in accepted.definition) schema
+
+-- the kind of a column is written by one name
+abbrev pub is_plain : KindWord → Bool
+is_plain (kind.Plain name) = true
+is_plain (kind.Agg function arg) = false
+
+-- a CREATE statement of a table without states and merges of states
+unfoldable pub is_built_create : Statement → Bool
+is_built_create (statement.CreateTable name columns engine.MergeTree key window) = list_all (λ column. is_plain column.kind) columns
+is_built_create other = false
+
+-- no check refuses a statement beside these tables, and this is what it defines
+abbrev pub Defines : List TableDef → Statement → Definition → Type 0
+Defines tables create (Table def) = defined tables create ≡ Ok def
+
+-- a statement is accepted beside the tables that stand
+pub record IsAccepted (tables : List TableDef) (accepted : Accepted) : Type 0 where
+  pub formed : WellFormed accepted.statement
+  pub defines : Defines tables accepted.statement accepted.definition
+
+-- statements are accepted one after the other, beside the tables that stand
+abbrev pub AreAccepted : List TableDef → List Accepted → Type 0
+AreAccepted tables [] = Unit {0}
+AreAccepted tables (accepted ∷ schema) =
+    (is_built_create accepted.statement ≡ true) × IsAccepted tables accepted × AreAccepted (tables ++ tables_in accepted.definition) schema
+
+-- a schema: each of its statements is built, and accepted over those before it
+abbrev pub IsSchema : List Accepted → Type 0
+IsSchema schema = AreAccepted [] schema
+
+-- a catalog's payload is the canonical text of an accepted statement
+abbrev pub catalog_payload : Accepted → List ℕ
+catalog_payload accepted = statement_text accepted.statement
+
+-- the payloads of a catalog's log that is right: the texts of a schema
+pub record AreTexts (payloads : List (List ℕ)) : Type 0 where
+  pub schema : List Accepted
+  pub are : payloads ≡ map catalog_payload schema
+  pub lawful : IsSchema schema

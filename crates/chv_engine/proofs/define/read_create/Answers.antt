@@ -1,7 +1,0 @@
--- A text that is no statement creates no table.
-use Rattle.std.proofs.Common.{sym, ◌∙◌}
-use Rattle.chv_engine.proofs.DefineLemmas.{none_read}
-use Rattle.chv_engine.proofs.define.read_create.Goals as goal
-
-pub returns-in-None-clause-none : goal.returns-in-None-clause-none
-returns-in-None-clause-none c = none_read c.args.schema.now.tables c.args.text.now (sym c.in_ok-statement.ensures ∙ c.in-None.is)

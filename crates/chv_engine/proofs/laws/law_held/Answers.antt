@@ -1,9 +1,0 @@
--- A run begins with nothing acknowledged.
-use Rattle.std.proofs.Common.{refl}
-use Rattle.chv_engine.specs.Runs.{begins}
-use Rattle.chv_engine.proofs.AcknowledgedLemmas.{holding_behind, holding_none}
-use Rattle.chv_engine.proofs.laws.law_held.Goals as goal
-
-pub returns : goal.returns
-returns c = λ requests history done left split.
-    holding_behind requests (begins history) done left (holding_none (begins history) refl) split

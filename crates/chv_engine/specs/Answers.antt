@@ -1,0 +1,193 @@
+-- What a call that answers a client does.
+use Rattle.std.specs.Prelude.{ℕ, ◌≡◌, ◌-◌, ◌<◌, ◌≤◌, List, [], ◌∷◌, ◌++◌, length, map, Bool, true, not, Option, ◌||◌, Some, slice_get, Result, Ok, Err, IfOk, OnOk, IsErrOf}
+use Rattle.chv_ast.specs.declared.refusal.Refusal.{Refusal}
+use Rattle.chv_ast.specs.declared.refusal.Refusal.TheVariants.{LimitPassed}
+use Rattle.chv_ast.specs.declared.statement.Statement.{Statement}
+use Rattle.chv_catalog.specs.declared.table_def.TableDef.{TableDef}
+use Rattle.chv_commit.specs.declared.commit.Commit.{Commit}
+use Rattle.chv_define.specs.Accepted.{Accepted, Table, tables_of, IsSchema, catalog_payload}
+use Rattle.chv_define.specs.Definitions.{and_then, defined, refuse_if}
+use Rattle.chv_history.specs.Crashes.{IsLeftBy}
+use Rattle.chv_history.specs.Events.{Event, Plan, Moment, behind}
+use Rattle.chv_history.specs.Histories.{History, book_of, IsLawful}
+use Rattle.chv_history.specs.Kept.{Kept, kept_task, is_refusal, refuses}
+use Rattle.chv_history.specs.Runs.{answer_events, entries_in, run_events}
+use Rattle.chv_history.specs.Script.{Request}
+use Rattle.chv_history.specs.Tasks.{Task, Make, Bring, TellRows, TellParts, has_room, task_of}
+use Rattle.chv_part.specs.Forms.{form_of}
+use Rattle.chv_part.specs.declared.damage.Damage.{Damage}
+use Rattle.chv_plan.specs.Plans.{planned, table_of}
+use Rattle.chv_site.specs.During.{During}
+use Rattle.chv_site.specs.FileIds.{table_log}
+use Rattle.chv_site.specs.Files.{FileState, KeepsFiles}
+use Rattle.chv_site.specs.Images.{Image, IsLeftSaying}
+use Rattle.chv_site.specs.Outside.{Outside, bytes_in}
+use Rattle.chv_site.specs.declared.file_id.FileId.{FileId}
+use Rattle.chv_store.specs.Holding.{HoldsBooks, HoldsLogs}
+use Rattle.chv_store.specs.Stores.{IsUsable, IsWithin, state_of}
+use Rattle.chv_store.specs.declared.store.Store.{Store}
+use Rattle.chv_table.specs.Damage.{IsPartDamage}
+use Rattle.chv_engine.specs.Damage.{line_of}
+use Rattle.chv_engine.specs.Faults.{CountsRun}
+use Rattle.chv_engine.specs.Telling.{TellsOrFails}
+use Rattle.chv_engine.specs.declared.fault.RunFault.{RunFault}
+use Rattle.chv_engine.specs.declared.fault.RunFault.TheVariants.{Damaged}
+
+-- what a client asks for: a task, or a refusal, beside the tables that stand and their numbers of entries
+abbrev pub Wish : Type 0
+Wish = List TableDef → (ℕ → ℕ) → Result Task Refusal
+
+-- the events of what a client asks for
+abbrev pub wish_events : ℕ → Wish → History → List Event
+wish_events client wish history = answer_events client (wish (tables_of history.schema) (entries_in history)) history
+
+-- what is asked for, beside what is held
+abbrev pub wish_in : Wish → Kept → Result Task Refusal
+wish_in wish kept = wish kept.tables (λ table. (kept.states table).entries)
+
+-- a store, with what is outside, is at a moment; `before` is the text said before the run
+pub record IsAt (store : Store) (outside : Outside) (before : List ℕ) (m : Moment) : Type 0 where
+  pub lawful : IsLawful m.history
+  pub tables : store.schema.tables ≡ tables_of m.history.schema
+  pub holds : HoldsBooks store outside.files (map catalog_payload m.history.schema) (book_of m.history)
+  pub text : outside.said ≡ before ++ m.said
+
+-- the store is at the moment behind events, which have the mark where a statement was refused
+pub record AnswersAs (store : Store) (outside : Outside) (before : List ℕ) (refused : Bool) (events : List Event) (m : Moment) : Type 0 where
+  pub at : IsAt store outside before (behind events m)
+  pub mark : (behind events m).refused ≡ (m.refused || refused)
+
+-- a store has these tables, and holds of the log of each what it says
+pub record HoldsKept (store : Store) (kept : Kept) : Type 0 where
+  pub tables : store.schema.tables ≡ kept.tables
+  pub states : (table : ℕ) → 1 ≤ table → table ≤ length kept.tables → state_of store table ≡ kept.states table
+
+-- a store with its files holds what its logs say, whatever the parts are, and no other table has a log of which a crash
+-- leaves more than a torn gate
+pub record IsLogged (store : Store) (files : FileId → FileState) : Type 0 where
+  pub schema : List Accepted
+  pub lawful : IsSchema schema
+  pub tables : store.schema.tables ≡ tables_of schema
+  pub commits : ℕ → List Commit
+  pub holds : HoldsLogs store files (map catalog_payload schema) commits
+  pub others : (table : ℕ) → length store.schema.tables < table → (files (table_log table)).most ≤ 1
+
+-- all rows of a table are asked for, and this damage is that of the first of its live parts that is damaged
+pub record MeetsDamage (wish : Wish) (store : Store) (files : Image) (damage : Damage) : Type 0 where
+  pub table : ℕ
+  pub def : TableDef
+  pub asks : wish store.schema.tables (λ other. (state_of store other).entries) ≡ Ok (TellRows table def)
+  pub is : IsPartDamage table (form_of def) (state_of store table).layout files damage
+
+-- this damage ends the run, unless another fault does
+abbrev pub EndsBy : Damage → Result Bool RunFault → Type 0
+EndsBy damage (Ok refused) = ⊥
+EndsBy damage (Err (Damaged other)) = other ≡ damage
+EndsBy damage (Err fault) = Unit {0}
+
+-- a damage that was met: the store is as it was, no file changed, and nothing was said
+pub record HasMet (wish : Wish) (damage : Damage) (was is : Store) (old new : Outside) : Type 0 where
+  pub meets : MeetsDamage wish was (bytes_in old) damage
+  pub same : is ≡ was
+  pub files : KeepsFiles old.files new.files
+  pub said : new.said ≡ old.said
+
+-- a reply was said, or after an error a front of it, and no file changed; this is answered
+pub record Replies (tells : Type 0) (text : List ℕ) (refused : Bool) (result : Result Bool RunFault) (old new : Outside) : Type 0 where
+  pub answer : IfOk result (λ answer. answer ≡ refused)
+  pub said : tells → OnOk result (new.said ≡ old.said ++ text)
+  pub files : tells → KeepsFiles old.files new.files
+  pub during : tells → During old new (IsLeftSaying old.files old.said text)
+  pub undamaged : (damage : Damage) → IsErrOf result (Damaged damage) → ⊥
+  pub counts : CountsRun result old new
+
+-- a client was answered what it asks for
+pub record Answers (tells : Type 0) (client : ℕ) (wish : Wish) (result : Result Bool RunFault) (was is : Store) (old new : Outside) : Type 0 where
+  -- a store that was at a moment is behind the events, and a crash at any moment of the call leaves what is between them
+  pub answered : tells → IfOk result (λ refused. (before : List ℕ) (m : Moment) → IsAt was old before m → AnswersAs is new before refused (wish_events client wish m.history) m)
+  pub during : tells → (before : List ℕ) (m : Moment) → IsAt was old before m → During old new (IsLeftBy (wish_events client wish m.history) before m)
+  -- whatever the files hold: whether it is refused, and what is held afterwards; a refusal changes no file
+  pub kept : IfOk result (λ refused. (kept : Kept) → HoldsKept was kept → HoldsKept is (kept_task (wish_in wish kept) kept) × (is_refusal (wish_in wish kept) ≡ refused))
+  pub refused : tells → IfOk result (λ refused. refused ≡ true → KeepsFiles old.files new.files)
+  pub logged : tells → OnOk result (IsLogged was old.files → IsLogged is new.files)
+  pub usable : OnOk result (IsUsable tells is new)
+  -- damage is told where it is met, and always
+  pub damaged : tells → (damage : Damage) → IsErrOf result (Damaged damage) → HasMet wish damage was is old new
+  pub met : tells → (damage : Damage) → MeetsDamage wish was (bytes_in old) damage → EndsBy damage result
+  pub counts : CountsRun result old new
+
+-- all rows, or the parts, of the table of a name are asked for
+abbrev pub rows_wish : List ℕ → Wish
+rows_wish name tables entries = and_then (table_of tables name) (λ found. Ok (TellRows found.0 found.1))
+
+abbrev pub parts_wish : List ℕ → Wish
+parts_wish name tables entries = and_then (table_of tables name) (λ found. Ok (TellParts found.0 found.1))
+
+-- a CREATE statement asks for its table
+abbrev pub create_wish : Statement → Wish
+create_wish create tables entries = and_then (defined tables create) (λ def. Ok (Make (record { statement = create; definition = Table def })))
+
+-- an INSERT asks for deliveries for which there is room
+abbrev pub plan_wish : Plan → Wish
+plan_wish plan tables entries = refuse_if (not (has_room plan entries)) LimitPassed (Ok (Bring plan))
+
+abbrev pub insert_wish : Statement → Wish
+insert_wish insert tables entries = and_then (planned tables insert) (λ plan. plan_wish plan tables entries)
+
+-- a statement, or a text that is none, asks for its task
+abbrev pub statement_wish : Option Statement → Wish
+statement_wish asked tables entries = task_of tables entries asked
+
+abbrev pub request_wish : Request → Wish
+request_wish request = statement_wish request.statement
+
+-- the first of these requests asks for all rows of a table, and this damage is that of the first of its live parts that is
+-- damaged
+abbrev pub FirstAsks : List Request → Store → Image → Damage → Type 0
+FirstAsks [] store files damage = ⊥
+FirstAsks (request ∷ requests) store files damage = MeetsDamage (request_wish request) store files damage
+
+-- the first request met this damage, which ends the run with nothing said, unless another fault does
+abbrev pub MeetsFirst : Damage → Result Bool RunFault → Store → Store → Outside → Outside → Type 0
+MeetsFirst damage (Ok refused) was is old new = ⊥
+MeetsFirst damage (Err (Damaged other)) was is old new = (other ≡ damage) × (is ≡ was) × (new.said ≡ old.said)
+MeetsFirst damage (Err fault) was is old new = Unit {0}
+
+-- this damage is that of the first damaged one of the live parts of a table of the store, as they are held
+pub record IsHeldDamage (store : Store) (outside : Outside) (damage : Damage) : Type 0 where
+  pub within : IsWithin store
+  pub table : ℕ
+  pub def : TableDef
+  pub first : 1 ≤ table
+  pub stands : slice_get store.schema.tables (table - 1) ≡ Some def
+  pub is : IsPartDamage table (form_of def) (state_of store table).layout (bytes_in outside) damage
+
+-- requests were answered one after the other; as `Answers`, over all of them
+pub record AnswersAll (tells : Type 0) (requests : List Request) (result : Result Bool RunFault) (was is : Store) (old new : Outside) : Type 0 where
+  pub answered : tells → IfOk result (λ refused. (before : List ℕ) (m : Moment) → IsAt was old before m → AnswersAs is new before refused (run_events requests m) m)
+  pub during : tells → (before : List ℕ) (m : Moment) → IsAt was old before m → During old new (IsLeftBy (run_events requests m) before m)
+  pub kept : IfOk result (λ refused. (kept : Kept) → HoldsKept was kept → refuses requests kept ≡ refused)
+  -- damage is of the live parts of a table that stands, as they are held when it is met; the tables are those that stand then
+  pub damaged : tells → (damage : Damage) → IsErrOf result (Damaged damage) → IsHeldDamage is new damage × (IsLogged was old.files → IsLogged is new.files)
+  pub undamaged : tells → (before : List ℕ) (m : Moment) (damage : Damage) → IsAt was old before m → IsErrOf result (Damaged damage) → ⊥
+  pub met : tells → (damage : Damage) → FirstAsks requests was (bytes_in old) damage → MeetsFirst damage result was is old new
+  pub within : OnOk result (IsWithin is)
+  pub counts : CountsRun result old new
+
+-- a damage of a part was met and told: as the store then is, by the last line that was said
+pub record TellsHeld (was is : Store) (damage : Damage) (old new : Outside) : Type 0 where
+  pub held : IsHeldDamage is new damage
+  pub logged : IsLogged was old.files → IsLogged is new.files
+  pub text : List ℕ
+  pub ends : new.said ≡ text ++ line_of is.schema.tables damage
+
+-- as `AnswersAll`, where damage that is met is told
+pub record RunsAll (tells : Type 0) (requests : List Request) (result : Result Bool RunFault) (was is : Store) (old new : Outside) : Type 0 where
+  pub answered : tells → IfOk result (λ refused. (before : List ℕ) (m : Moment) → IsAt was old before m → AnswersAs is new before refused (run_events requests m) m)
+  pub during : tells → (before : List ℕ) (m : Moment) → IsAt was old before m → During old new (IsLeftBy (run_events requests m) before m)
+  pub kept : IfOk result (λ refused. (kept : Kept) → HoldsKept was kept → refuses requests kept ≡ refused)
+  pub damaged : tells → (damage : Damage) → IsErrOf result (Damaged damage) → TellsHeld was is damage old new
+  pub undamaged : tells → (before : List ℕ) (m : Moment) (damage : Damage) → IsAt was old before m → IsErrOf result (Damaged damage) → ⊥
+  pub met : tells → (damage : Damage) → FirstAsks requests was (bytes_in old) damage → TellsOrFails result old.said new.said (line_of was.schema.tables damage)
+  pub within : OnOk result (IsWithin is)
+  pub counts : CountsRun result old new

@@ -1,0 +1,15 @@
+pub mod AcknowledgedLemmas
+pub mod ArrivingLemmas
+pub mod CommitLemmas
+pub mod EntryLemmas
+pub mod KeptLemmas
+pub mod LawfulLemmas
+pub mod LeftLemmas
+pub mod LookupLemmas
+pub mod RequestLemmas
+pub mod RunLemmas
+pub mod SpacedLemmas
+pub mod StandingLemmas
+pub mod TaskLemmas
+pub mod WhileLemmas
+pub mod WholeLemmas

@@ -1,0 +1,65 @@
+-- The ids of each table stay spaced.
+use Rattle.std.proofs.Common.{◌≡◌, inl, inr, ℕ, ◌+◌, ◌-◌, List, [], ◌∷◌, ◌++◌, length, Some, slice_get, sym, ap, subst, ◌∙◌, arith}
+use Rattle.std.proofs.lemmas.Bool.{cases_eq}
+use Rattle.std.proofs.lemmas.List.{length-append, map-append}
+use Rattle.chv_catalog.specs.declared.table_def.TableDef.{TableDef}
+use Rattle.chv_define.specs.Accepted.{Accepted, tables_of}
+use Rattle.chv_define.proofs.AcceptedLemmas.{tables_of-push}
+use Rattle.chv_part.specs.Books.{IsSpaced}
+use Rattle.chv_part.proofs.BookLemmas.{IsSpaced-fresh}
+use Rattle.chv_plan.specs.Arrivals.{Arrival}
+use Rattle.chv_history.specs.Events.{Event, Created, Committed, Replied, Moment, behind, happen, with_commit, written_in}
+use Rattle.chv_history.specs.Histories.{History, ids_in, put_at, window_at, window_in, with_accepted}
+use Rattle.chv_history.specs.Spaced.{AreSpaced}
+use Rattle.chv_history.proofs.ArrivingLemmas.{put_at-same, put_at-other}
+use Rattle.chv_history.proofs.CommitLemmas.{arrivals-other, arrivals-with_commit, schema-with_commit}
+use Rattle.chv_history.proofs.LawfulLemmas.{table_cases}
+
+-- no ids are spaced
+IsSpaced-none : (window : ℕ) → IsSpaced window []
+IsSpaced-none window = record { apart = λ older between newer id same. absurd (omega (arith, ap length same, length-append older (id ∷ (between ++ id ∷ newer)))) }
+
+-- a table is made
+spaced_created : (accepted : Accepted) (history : History) → AreSpaced history → AreSpaced (with_accepted accepted history)
+spaced_created accepted history spaced place def stands =
+    let number = length (tables_of history.schema) + 1 in
+    let Spaced : List Arrival → Type 0 = λ arrivals. IsSpaced def.window (ids_in arrivals) in
+    elim (table_cases (tables_of history.schema) accepted.definition place def (subst (λ (defs : List TableDef). slice_get defs place ≡ Some def) (tables_of-push history.schema accepted) stands))
+    as (λ _. Spaced (put_at number [] history.arrivals (place + 1))) [
+      | inl old ↦ subst Spaced (sym (put_at-other number (place + 1) [] history.arrivals (λ same. absurd (omega (arith, same, old.0))))) (spaced place def old.1)
+      | inr last ↦ subst (λ (p : ℕ). Spaced (put_at number [] history.arrivals (p + 1))) (sym last) (subst Spaced (sym (put_at-same number [] history.arrivals)) (IsSpaced-none def.window))
+    ]
+
+-- blocks arrive
+module _ (table : ℕ) (arrivals : List Arrival) (history : History) (spaced : AreSpaced history) where
+  abbrev next : History
+  next = with_commit table arrivals history
+
+  spaced_here : (place : ℕ) (def : TableDef) → place + 1 ≡ table → slice_get (tables_of history.schema) place ≡ Some def → IsSpaced def.window (ids_in (next.arrivals table))
+  spaced_here place def same stands =
+      let at : place + 1 - 1 ≡ place = omega arith in
+      let window : window_at (tables_of history.schema) table ≡ def.window =
+      subst (λ (n : ℕ). window_at (tables_of history.schema) n ≡ def.window) same (ap (λ (p : ℕ). window_in (slice_get (tables_of history.schema) p)) at ∙ ap window_in stands) in
+      let ids = ids_in (history.arrivals table) in
+      let old : IsSpaced def.window ids = subst (λ (n : ℕ). IsSpaced def.window (ids_in (history.arrivals n))) same (spaced place def stands) in
+      let all : ids_in (next.arrivals table) ≡ ids ++ ids_in (written_in table arrivals history) =
+      ap ids_in (arrivals-with_commit table arrivals history) ∙ map-append (λ (a : Arrival). a.id) (history.arrivals table) (written_in table arrivals history) in
+      subst (IsSpaced def.window) (sym all)
+      (subst (λ (w : ℕ). IsSpaced w (ids ++ ids_in (written_in table arrivals history))) window
+      (IsSpaced-fresh (λ (a : Arrival). a.id) (window_at (tables_of history.schema) table) ids arrivals (subst (λ (w : ℕ). IsSpaced w ids) (sym window) old)))
+
+  spaced_each : (place : ℕ) (def : TableDef) → slice_get (tables_of history.schema) place ≡ Some def → IsSpaced def.window (ids_in (next.arrivals (place + 1)))
+  spaced_each place def stands = elim (cases_eq (place + 1) table) as (λ _. IsSpaced def.window (ids_in (next.arrivals (place + 1)))) [
+    | inl same ↦ subst (λ (n : ℕ). IsSpaced def.window (ids_in (next.arrivals n))) (sym same) (spaced_here place def same stands)
+    | inr other ↦ subst (λ (l : List Arrival). IsSpaced def.window (ids_in l)) (sym (arrivals-other table (place + 1) arrivals history other)) (spaced place def stands)
+  ]
+
+  spaced_committed : AreSpaced next
+  spaced_committed place def stands = spaced_each place def (subst (λ (s : List Accepted). slice_get (tables_of s) place ≡ Some def) (schema-with_commit table arrivals history) stands)
+
+-- and whatever happens
+pub spaced_behind : (events : List Event) (m : Moment) → AreSpaced m.history → AreSpaced (behind events m).history
+spaced_behind [] m spaced = spaced
+spaced_behind (Created accepted ∷ events) m spaced = spaced_behind events (happen (Created accepted) m) (spaced_created accepted m.history spaced)
+spaced_behind (Committed table arrivals ∷ events) m spaced = spaced_behind events (happen (Committed table arrivals) m) (spaced_committed table arrivals m.history spaced)
+spaced_behind (Replied text plans refuses ∷ events) m spaced = spaced_behind events (happen (Replied text plans refuses) m) spaced

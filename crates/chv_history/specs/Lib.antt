@@ -1,0 +1,11 @@
+pub mod Acknowledged
+pub mod Built
+pub mod Crashes
+pub mod Events
+pub mod Histories
+pub mod Kept
+pub mod Runs
+pub mod Script
+pub mod Spaced
+pub mod Tasks
+pub mod Told

@@ -1,0 +1,54 @@
+-- What a statement has a store do, or the first check that refuses it.
+use Rattle.std.specs.Prelude.{ℕ, ◌+◌, Bool, not, List, length, Option, None, Some, Result, Ok, Err, nat_eq, nat_lt}
+use Rattle.std.specs.List.{filter, list_all}
+use Rattle.chv_ast.specs.declared.refusal.Refusal.{Refusal}
+use Rattle.chv_ast.specs.declared.refusal.Refusal.TheVariants.{Syntax, LimitPassed, NotBuilt}
+use Rattle.chv_ast.specs.declared.statement.Statement.{Statement}
+use Rattle.chv_ast.specs.declared.statement.Statement.TheVariants as statement
+use Rattle.chv_catalog.specs.declared.table_def.TableDef.{TableDef}
+use Rattle.chv_commit.specs.Replays.{MAX_ENTRIES}
+use Rattle.chv_define.specs.Accepted.{Accepted, Table}
+use Rattle.chv_define.specs.Definitions.{and_then, defined, refuse_if}
+use Rattle.chv_plan.specs.Plans.{Delivery, planned, table_of}
+use Rattle.chv_history.specs.Built.{is_built}
+use Rattle.chv_history.specs.Events.{Plan}
+
+-- what a store does: it makes a table; it brings blocks; or it tells the rows, or the parts, of the table of this number and
+-- this definition
+pub data Task : Type 0 where
+  Make : Accepted → Task
+  Bring : Plan → Task
+  TellRows : ℕ → TableDef → Task
+  TellParts : ℕ → TableDef → Task
+
+-- how many deliveries go to a table
+abbrev pub deliveries_to : ℕ → Plan → ℕ
+deliveries_to table plan = length (filter (λ (delivery : Delivery). nat_eq delivery.table table) plan)
+
+-- each table, which has so many entries, has room for its deliveries
+abbrev pub has_room : Plan → (ℕ → ℕ) → Bool
+has_room plan entries =
+    list_all (λ (delivery : Delivery). not (nat_lt MAX_ENTRIES (entries delivery.table + deliveries_to delivery.table plan))) plan
+
+-- the task of a statement that is built, beside tables that have so many entries
+abbrev pub built_task : List TableDef → (ℕ → ℕ) → Statement → Result Task Refusal
+built_task tables entries (statement.CreateTable name columns engine key window) =
+    let create = statement.CreateTable name columns engine key window in
+    and_then (defined tables create) (λ def. Ok (Make (record { statement = create; definition = Table def })))
+built_task tables entries (statement.Insert table columns settings rows) =
+    and_then (planned tables (statement.Insert table columns settings rows)) (λ plan.
+    refuse_if (not (has_room plan entries)) LimitPassed (Ok (Bring plan)))
+built_task tables entries (statement.Query query) = and_then (table_of tables query.table) (λ found. Ok (TellRows found.0 found.1))
+built_task tables entries (statement.ShowParts table) = and_then (table_of tables table) (λ found. Ok (TellParts found.0 found.1))
+built_task tables entries (statement.CreateView name target query) = Err NotBuilt
+built_task tables entries (statement.Optimize table) = Err NotBuilt
+built_task tables entries statement.FlushQueue = Err NotBuilt
+
+-- the task of a statement
+abbrev pub statement_task : List TableDef → (ℕ → ℕ) → Statement → Result Task Refusal
+statement_task tables entries asked = refuse_if (not (is_built asked)) NotBuilt (built_task tables entries asked)
+
+-- the task of a statement, and of a text that is none
+abbrev pub task_of : List TableDef → (ℕ → ℕ) → Option Statement → Result Task Refusal
+task_of tables entries None = Err Syntax
+task_of tables entries (Some asked) = statement_task tables entries asked

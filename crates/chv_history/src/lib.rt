@@ -1,0 +1,6 @@
+//! Histories: what a store has, what happens to it, and what a crash leaves, as definitions with their laws.
+#![tactic(auto)]
+
+mod laws;
+
+pub use laws::{law_acknowledged, law_held, law_kept, law_spaced, law_whole};

@@ -1,0 +1,17 @@
+pub mod BeginLemmas
+pub mod CatalogLemmas
+pub mod CreateLemmas
+pub mod DefineLemmas
+pub mod DeliverLemmas
+pub mod EachTableLemmas
+pub mod FaultLemmas
+pub mod MadeLemmas
+pub mod MakesLemmas
+pub mod OpenLemmas
+pub mod OpenedLemmas
+pub mod PlaceLemmas
+pub mod ReadingLemmas
+pub mod ReserveLemmas
+pub mod SchemaLemmas
+pub mod SettleLemmas
+pub mod StoreLemmas

@@ -1,0 +1,5 @@
+pub mod Calls
+pub mod Damage
+pub mod Holding
+pub mod Openings
+pub mod Stores

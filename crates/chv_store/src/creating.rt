@@ -1,0 +1,74 @@
+// How a table is made.
+ghost use Rattle.std.specs.Prelude.{◌≡◌, ◌≤◌, ◌+◌, ◌++◌, [], ◌∷◌, List, ℕ, length, IfOk, OnOk, IsErrOf};
+ghost use Rattle.chv_commit.specs.Replays.{no_state};
+ghost use Rattle.chv_commit.specs.declared.commit.Commit.{Commit};
+ghost use Rattle.chv_gate.specs.GateLog.{frame_of};
+ghost use Rattle.chv_part.specs.Books.{Book, no_book};
+ghost use Rattle.chv_part.specs.Forms.{form_of};
+ghost use Rattle.chv_print.specs.StatementTexts.{statement_text};
+ghost use Rattle.chv_site.specs.FileIds.{table_log};
+ghost use Rattle.chv_store.specs.Calls.{ChangesLogs, StandsFor, Turns};
+ghost use Rattle.chv_store.specs.Holding.{HoldsBooks, HoldsLogs, with_book, with_one};
+ghost use Rattle.chv_store.specs.Openings.{MakesTable};
+ghost use Rattle.chv_store.specs.Stores.{IsUsable, forms_of, states_of};
+
+use crate::Store;
+use chv_ast::Statement;
+use chv_catalog::TableDef;
+use chv_gate::frame;
+use chv_print::statement_text;
+use chv_site::Site;
+use chv_table::{PutFault, begin_table};
+use std::alloc::{AllocError, Global};
+
+impl Store {
+    /// Makes the table that a statement defines: its log is begun, and then the statement's canonical text is appended to the
+    /// catalog's log. All memory is taken before the first call of the site. After an `Err` the store is not used again.
+    pub fn create<W: Site>(
+        &mut self,
+        alloc: Global,
+        site: &mut W,
+        create: &Statement,
+        def: TableDef,
+    ) -> Result<(), PutFault>
+        requires usable { IsUsable W.tells self.old (W.outside site.old) }
+        requires makes { MakesTable self.old.schema.tables create.now def }
+        // The table's book is empty; a crash at any moment of the call leaves the store with the table or without.
+        ensures created { W.tells → (payloads : List (List ℕ)) (books : ℕ → Book) → HoldsBooks self.old (W.outside site.old).files payloads books
+            → Turns result (HoldsBooks self.new (W.outside site.new).files (payloads ++ statement_text create.now ∷ []) (with_book (length self.old.schema.tables + 1) no_book books))
+            (StandsFor payloads (forms_of self.old) books)
+            (StandsFor (payloads ++ statement_text create.now ∷ []) (forms_of self.old ++ form_of def ∷ []) (with_book (length self.old.schema.tables + 1) no_book books))
+            (W.outside site.old) (W.outside site.new) }
+        ensures logged { W.tells → (payloads : List (List ℕ)) (commits : ℕ → List Commit) → HoldsLogs self.old (W.outside site.old).files payloads commits
+            → ((W.outside site.old).files (table_log (length self.old.schema.tables + 1))).most ≤ 1
+            → OnOk result (HoldsLogs self.new (W.outside site.new).files (payloads ++ statement_text create.now ∷ []) (with_one (length self.old.schema.tables + 1) [] commits)) }
+        ensures held { OnOk result ((self.new.schema.tables ≡ self.old.schema.tables ++ def ∷ []) × (states_of self.new ≡ states_of self.old ++ no_state ∷ [])) }
+        ensures usable { OnOk result (IsUsable W.tells self.new (W.outside site.new)) }
+        ensures keeps { ChangesLogs W.tells (IsErrOf result PutFault.Failed) (length self.old.schema.tables + 1) (W.outside site.old) (W.outside site.new) }
+    {
+        let frame = spell(alloc, create)?;
+        self.schema.reserve_one(alloc, def.name.as_slice())?;
+        self.tables.reserve(1)?;
+        let number = self.schema.tables() + 1;
+        let table = begin_table(alloc, site, number, &def)?;
+        self.catalog.append(site, &frame)?;
+        self.schema.accept(def);
+        match self.tables.push(table) {
+            Ok(()) => Ok(()),
+            Err(_) => {
+                prove!(false);
+                Err(PutFault::NoMemory)
+            }
+        }
+    }
+}
+
+// The frame of a statement's canonical text.
+fn spell(alloc: Global, create: &Statement) -> Result<Vec<u8>, AllocError>
+    requires short { length (statement_text create.now) ≤ 1048576 }
+    requires some { 1 ≤ length (statement_text create.now) }
+    ensures { IfOk result (λ frame. frame.items ≡ frame_of (statement_text create.now)) }
+{
+    let text = statement_text(alloc, create)?;
+    frame(alloc, &text)
+}
