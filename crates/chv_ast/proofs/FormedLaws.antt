@@ -1,7 +1,7 @@
 -- What tokens with texts of their kinds write is well formed.
 use Rattle.std.proofs.Common.{inl, inr, ℕ, true, List, [], ◌∷◌, ◌++◌, Option, Some, None, refl, sym, subst}
 use Rattle.std.specs.Prelude.{fold}
-use Rattle.chv_ast.specs.Formed.{Each, EachOfSome, IfThere, FormedLiteral, FormedConstant, FormedIn, FormedArgs, FormedExpr, FormedKind, FormedColumn, FormedItem, FormedOrder, FormedSelect, FormedSettings, WellFormed}
+use Rattle.chv_ast.specs.Formed.{Each, EachOfSome, IfThere, FormedLiteral, FormedConstant, FormedIn, FormedArgs, FormedExpr, FormedKind, FormedColumn, FormedItem, FormedOrder, FormedSelect, FormedSettings, FormedTable, FormedView, FormedInsert, WellFormed}
 use Rattle.chv_ast.specs.Grammar.{IsLiteral, Spells, AreSpelled, AreBehind, IsExpr}
 use Rattle.chv_ast.specs.GrammarStatements as grammar
 use Rattle.chv_ast.specs.GrammarStatements.{Setting, IsPlain, IsStatement}
@@ -17,8 +17,10 @@ use Rattle.chv_ast.specs.declared.statement.Item.{Item}
 use Rattle.chv_ast.specs.declared.statement.Item.TheVariants as shown
 use Rattle.chv_ast.specs.declared.statement.KindWord.{KindWord}
 use Rattle.chv_ast.specs.declared.statement.KindWord.TheVariants as kind
+use Rattle.chv_ast.specs.declared.statement.Optimize.{Optimize}
 use Rattle.chv_ast.specs.declared.statement.Select.{Select}
 use Rattle.chv_ast.specs.declared.statement.Settings.{Settings}
+use Rattle.chv_ast.specs.declared.statement.ShowParts.{ShowParts}
 use Rattle.chv_ast.specs.declared.statement.Statement.{Statement}
 use Rattle.chv_ast.specs.declared.statement.Statement.TheVariants as statement
 use Rattle.chv_ast.proofs.WordLemmas.{IsName-name_of, IsDigits-digits_of}
@@ -199,13 +201,14 @@ form_key = record { formed = one }
 form_window : Forms grammar.window_setting IsDigits
 form_window = mark (mark (mark form_whole))
 
-form_create_table : Forms grammar.create_table WellFormed
+form_create_table : Forms grammar.create_table FormedTable
 unfolding grammar.create_table
 form_create_table =
     mark (mark (behind form_name λ called named. behind (form_enclosed (form_listed form_column)) λ columns formed_columns.
     mark (skip λ equals. skip λ engine. skip λ parentheses. mark (mark (behind form_key λ key formed_key.
     behind (form_optional form_window) λ window formed_window.
-    gives WellFormed (statement.CreateTable called columns engine key window) (named, formed_columns, formed_key, formed_window))))))
+    gives FormedTable (record { name = called; columns = columns; engine = engine; key = key; window = window })
+    (named, formed_columns, formed_key, formed_window))))))
 
 -- a plain select
 abbrev PlainSelect : Select → Type 0
@@ -214,11 +217,11 @@ PlainSelect query = FormedSelect query × IsPlain query
 form_plain_select : Forms grammar.plain_select PlainSelect
 form_plain_select = record { formed = λ query tokens spelled written. (form_select.formed query tokens spelled written.0, written.1) }
 
-form_create_view : Forms grammar.create_view WellFormed
+form_create_view : Forms grammar.create_view FormedView
 unfolding grammar.create_view
 form_create_view =
     mark (mark (mark (behind form_name λ called named. mark (behind form_name λ target targeted. mark (behind form_plain_select λ query formed.
-    gives WellFormed (statement.CreateView called target query) (named, targeted, formed.0, formed.1))))))
+    gives FormedView (record { name = called; target = target; select = query }) (named, targeted, formed.0, formed.1))))))
 
 -- inserts
 
@@ -279,33 +282,31 @@ form_row_literal = record { formed = one }
     one value tokens spelled (inr below) =
         (mark (behind form_whole λ digits formed. gives FormedLiteral (literal.Whole true digits) formed)).formed value tokens spelled below
 
-form_insert : Forms grammar.insert WellFormed
+form_insert : Forms grammar.insert FormedInsert
 unfolding grammar.insert
 form_insert =
     mark (mark (skip λ table_word. behind form_name λ table named. behind (form_optional form_names) λ columns formed_columns.
     behind form_settings λ set formed_settings. mark (behind (form_listed (form_enclosed (form_listed form_row_literal))) λ rows formed_rows.
-    gives WellFormed (statement.Insert table columns set rows) (named, formed_columns, formed_settings, formed_rows))))
+    gives FormedInsert (record { table = table; columns = columns; settings = set; rows = rows })
+    (named, formed_columns, formed_settings, formed_rows))))
 
 -- other statements
 
-form_query : Forms grammar.query WellFormed
-unfolding grammar.query
-form_query = behind form_select λ asked formed. gives WellFormed (statement.Query asked) formed
-
-form_show_parts : Forms grammar.show_parts WellFormed
+form_show_parts : Forms grammar.show_parts (λ (asked : ShowParts). IsName asked.table)
 unfolding grammar.show_parts
-form_show_parts = mark (mark (behind form_name λ table named. gives WellFormed (statement.ShowParts table) named))
+form_show_parts = mark (mark (behind form_name λ table named. gives (λ (asked : ShowParts). IsName asked.table) (record { table = table }) named))
 
-form_optimize : Forms grammar.optimize WellFormed
+form_optimize : Forms grammar.optimize (λ (asked : Optimize). IsName asked.table)
 unfolding grammar.optimize
-form_optimize = mark (mark (behind form_name λ table named. mark (gives WellFormed (statement.Optimize table) named)))
+form_optimize =
+    mark (mark (behind form_name λ table named. mark (gives (λ (asked : Optimize). IsName asked.table) (record { table = table }) named)))
 
 -- statements are well formed
 pub well_formed : (s : Statement) (tokens : List Lexeme) → Each IsSpelled tokens → IsStatement s tokens → WellFormed s
-well_formed (statement.CreateTable called columns engine key window) tokens spelled written = form_create_table.formed _ tokens spelled written
-well_formed (statement.CreateView called target query) tokens spelled written = form_create_view.formed _ tokens spelled written
-well_formed (statement.Insert table columns set rows) tokens spelled written = form_insert.formed _ tokens spelled written
-well_formed (statement.Query asked) tokens spelled written = form_query.formed _ tokens spelled written
-well_formed (statement.ShowParts table) tokens spelled written = form_show_parts.formed _ tokens spelled written
-well_formed (statement.Optimize table) tokens spelled written = form_optimize.formed _ tokens spelled written
+well_formed (statement.CreateTable made) tokens spelled written = form_create_table.formed made tokens spelled written
+well_formed (statement.CreateView made) tokens spelled written = form_create_view.formed made tokens spelled written
+well_formed (statement.Insert brought) tokens spelled written = form_insert.formed brought tokens spelled written
+well_formed (statement.Query asked) tokens spelled written = form_select.formed asked tokens spelled written
+well_formed (statement.ShowParts asked) tokens spelled written = form_show_parts.formed asked tokens spelled written
+well_formed (statement.Optimize asked) tokens spelled written = form_optimize.formed asked tokens spelled written
 well_formed statement.FlushQueue tokens spelled written = tt

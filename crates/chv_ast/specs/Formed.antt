@@ -11,6 +11,9 @@ use Rattle.chv_ast.specs.declared.expr.Expr.TheVariants as expr
 use Rattle.chv_ast.specs.declared.expr.Args.{Args}
 use Rattle.chv_ast.specs.declared.expr.Args.TheVariants as args
 use Rattle.chv_ast.specs.declared.statement.ColumnDef.{ColumnDef}
+use Rattle.chv_ast.specs.declared.statement.CreateTable.{CreateTable}
+use Rattle.chv_ast.specs.declared.statement.CreateView.{CreateView}
+use Rattle.chv_ast.specs.declared.statement.Insert.{Insert}
 use Rattle.chv_ast.specs.declared.statement.Item.{Item}
 use Rattle.chv_ast.specs.declared.statement.Item.TheVariants as shown
 use Rattle.chv_ast.specs.declared.statement.KindWord.{KindWord}
@@ -102,14 +105,26 @@ pub record FormedSettings (settings : Settings) : Type 0 where
   pub min_rows : IfThere IsDigits settings.min_rows
   pub min_bytes : IfThere IsDigits settings.min_bytes
 
+-- a statement that makes a table
+abbrev pub FormedTable : CreateTable → Type 0
+FormedTable made = IsName made.name × EachOfSome FormedColumn made.columns × Each IsName made.key × IfThere IsDigits made.window
+
+-- a statement that makes a view
+abbrev pub FormedView : CreateView → Type 0
+FormedView made = IsName made.name × IsName made.target × FormedSelect made.select × IsPlain made.select
+
+-- a statement that brings rows
+abbrev pub FormedInsert : Insert → Type 0
+FormedInsert brought =
+    IsName brought.table × IfThere (EachOfSome IsName) brought.columns × FormedSettings brought.settings
+    × EachOfSome (EachOfSome FormedLiteral) brought.rows
+
 -- a statement
 abbrev pub WellFormed : Statement → Type 0
-WellFormed (statement.CreateTable name columns engine key window) =
-    IsName name × EachOfSome FormedColumn columns × Each IsName key × IfThere IsDigits window
-WellFormed (statement.CreateView name target select) = IsName name × IsName target × FormedSelect select × IsPlain select
-WellFormed (statement.Insert table columns settings rows) =
-    IsName table × IfThere (EachOfSome IsName) columns × FormedSettings settings × EachOfSome (EachOfSome FormedLiteral) rows
-WellFormed (statement.Query select) = FormedSelect select
-WellFormed (statement.ShowParts table) = IsName table
-WellFormed (statement.Optimize table) = IsName table
+WellFormed (statement.CreateTable made) = FormedTable made
+WellFormed (statement.CreateView made) = FormedView made
+WellFormed (statement.Insert brought) = FormedInsert brought
+WellFormed (statement.Query asked) = FormedSelect asked
+WellFormed (statement.ShowParts asked) = IsName asked.table
+WellFormed (statement.Optimize asked) = IsName asked.table
 WellFormed statement.FlushQueue = Unit {0}

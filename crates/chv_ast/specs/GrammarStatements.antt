@@ -7,15 +7,20 @@ use Rattle.chv_ast.specs.Spellings.{Spelling, ◌>>=◌, ◌>>◌, give, Marked,
 use Rattle.chv_ast.specs.declared.expr.Literal.{Literal}
 use Rattle.chv_ast.specs.declared.expr.Literal.TheVariants as literal
 use Rattle.chv_ast.specs.declared.statement.ColumnDef.{ColumnDef}
+use Rattle.chv_ast.specs.declared.statement.CreateTable.{CreateTable}
+use Rattle.chv_ast.specs.declared.statement.CreateView.{CreateView}
 use Rattle.chv_ast.specs.declared.statement.EngineWord.{EngineWord}
 use Rattle.chv_ast.specs.declared.statement.EngineWord.TheVariants as engine
+use Rattle.chv_ast.specs.declared.statement.Insert.{Insert}
 use Rattle.chv_ast.specs.declared.statement.Item.{Item}
 use Rattle.chv_ast.specs.declared.statement.Item.TheVariants as shown
 use Rattle.chv_ast.specs.declared.statement.KindWord.{KindWord}
 use Rattle.chv_ast.specs.declared.statement.KindWord.TheVariants as kind
+use Rattle.chv_ast.specs.declared.statement.Optimize.{Optimize}
 use Rattle.chv_ast.specs.declared.statement.Order.{Order}
 use Rattle.chv_ast.specs.declared.statement.Select.{Select}
 use Rattle.chv_ast.specs.declared.statement.Settings.{Settings}
+use Rattle.chv_ast.specs.declared.statement.ShowParts.{ShowParts}
 use Rattle.chv_ast.specs.declared.statement.Statement.{Statement}
 use Rattle.chv_ast.specs.declared.statement.Statement.TheVariants as statement
 
@@ -73,7 +78,7 @@ window_setting = do
   whole
 
 -- CREATE TABLE name (columns) ENGINE [=] engine [()] ORDER BY key [SETTINGS ..]
-unfoldable pub create_table : Spelling Statement
+unfoldable pub create_table : Spelling CreateTable
 create_table = do
   keyword (codes "CREATE")
   keyword (codes "TABLE")
@@ -87,7 +92,7 @@ create_table = do
   keyword (codes "BY")
   sorted ← key
   window ← optional window_setting
-  give (statement.CreateTable called columns engine sorted window)
+  give (record { name = called; columns = columns; engine = engine; key = sorted; window = window })
 
 -- AS name
 abbrev pub alias : Spelling (List ℕ)
@@ -155,7 +160,7 @@ abbrev pub plain_select : Spelling Select
 plain_select query tokens = select query tokens × IsPlain query
 
 -- CREATE MATERIALIZED VIEW name TO name AS select
-unfoldable pub create_view : Spelling Statement
+unfoldable pub create_view : Spelling CreateView
 create_view = do
   keyword (codes "CREATE")
   keyword (codes "MATERIALIZED")
@@ -165,7 +170,7 @@ create_view = do
   target ← name
   keyword (codes "AS")
   query ← plain_select
-  give (statement.CreateView called target query)
+  give (record { name = called; target = target; select = query })
 
 -- a setting of an insert; the last one changes nothing
 pub data Setting : Type 0 where
@@ -238,7 +243,7 @@ abbrev pub row_literal : Spelling Literal
 row_literal value tokens = IsOneLiteral value tokens ⊎ negative value tokens
 
 -- INSERT INTO [TABLE] name [(names)] [SETTINGS ..] VALUES row [, row]*
-unfoldable pub insert : Spelling Statement
+unfoldable pub insert : Spelling Insert
 insert = do
   keyword (codes "INSERT")
   keyword (codes "INTO")
@@ -248,45 +253,40 @@ insert = do
   set ← settings
   keyword (codes "VALUES")
   rows ← Listed (enclosed (Listed row_literal))
-  give (statement.Insert table columns set rows)
-
--- a select by itself
-unfoldable pub query : Spelling Statement
-query = select >>= λ asked. give (statement.Query asked)
+  give (record { table = table; columns = columns; settings = set; rows = rows })
 
 -- SHOW PARTS name
-unfoldable pub show_parts : Spelling Statement
+unfoldable pub show_parts : Spelling ShowParts
 show_parts = do
   keyword (codes "SHOW")
   keyword (codes "PARTS")
   table ← name
-  give (statement.ShowParts table)
+  give (record { table = table })
 
 -- OPTIMIZE TABLE name FINAL
-unfoldable pub optimize : Spelling Statement
+unfoldable pub optimize : Spelling Optimize
 optimize = do
   keyword (codes "OPTIMIZE")
   keyword (codes "TABLE")
   table ← name
   keyword (codes "FINAL")
-  give (statement.Optimize table)
+  give (record { table = table })
 
 -- SYSTEM FLUSH ASYNC INSERT QUEUE
-unfoldable pub flush_queue : Spelling Statement
+unfoldable pub flush_queue : Spelling (Unit {0})
 flush_queue = do
   keyword (codes "SYSTEM")
   keyword (codes "FLUSH")
   keyword (codes "ASYNC")
   keyword (codes "INSERT")
   keyword (codes "QUEUE")
-  give statement.FlushQueue
 
--- how a statement is written
+-- how a statement is written; a select stands by itself
 abbrev pub IsStatement : Spelling Statement
-IsStatement (statement.CreateTable a b c d e) = create_table (statement.CreateTable a b c d e)
-IsStatement (statement.CreateView a b c) = create_view (statement.CreateView a b c)
-IsStatement (statement.Insert a b c d) = insert (statement.Insert a b c d)
-IsStatement (statement.Query a) = query (statement.Query a)
-IsStatement (statement.ShowParts a) = show_parts (statement.ShowParts a)
-IsStatement (statement.Optimize a) = optimize (statement.Optimize a)
-IsStatement statement.FlushQueue = flush_queue statement.FlushQueue
+IsStatement (statement.CreateTable made) = create_table made
+IsStatement (statement.CreateView made) = create_view made
+IsStatement (statement.Insert brought) = insert brought
+IsStatement (statement.Query asked) = select asked
+IsStatement (statement.ShowParts asked) = show_parts asked
+IsStatement (statement.Optimize asked) = optimize asked
+IsStatement statement.FlushQueue = flush_queue tt

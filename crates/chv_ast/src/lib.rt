@@ -3,17 +3,17 @@
 
 mod expr;
 mod laws;
-mod list;
 mod refusal;
 mod statement;
+mod text;
 mod token;
 
 pub use expr::{Args, BinaryOp, Expr, Literal, UnaryOp};
 pub use laws::law_well_formed;
-pub use list::{Digits, Name, Quoted, Seq};
 pub use refusal::Refusal;
 pub use statement::{
-    ColumnDef, ColumnDefs, EngineWord, Exprs, Item, Items, KindWord, LiteralRows, Names, Order,
-    Orders, Select, Settings, Statement,
+    ColumnDef, ColumnDefs, CreateTable, CreateView, EngineWord, Insert, Item, KindWord, LiteralRow,
+    LiteralRows, Names, Optimize, Order, Select, Settings, ShowParts, Statement,
 };
+pub use text::{Digits, Name, Quoted};
 pub use token::TokenKind;

@@ -1,18 +1,15 @@
 // Statements.
-use crate::{Digits, Expr, Literal, Name, Quoted, Seq};
+use crate::{Digits, Expr, Literal, Name, Quoted};
+use sqlite_items::Items;
 
 /// The names of a list in order.
-pub type Names = Seq<Name>;
+pub type Names = Items<Name>;
 /// The columns of a table in order.
-pub type ColumnDefs = Seq<ColumnDef>;
-/// The rows of an insert in order, each as its literals in order.
-pub type LiteralRows = Seq<Seq<Literal>>;
-/// What a select shows, in order.
-pub type Items = Seq<Item>;
-/// Expressions in order.
-pub type Exprs = Seq<Expr>;
-/// What an answer is sorted by, the most telling first.
-pub type Orders = Seq<Order>;
+pub type ColumnDefs = Items<ColumnDef>;
+/// The literals of a row in order.
+pub type LiteralRow = Items<Literal>;
+/// The rows of an insert in order.
+pub type LiteralRows = Items<LiteralRow>;
 
 /// The name of a column's kind.
 #[derive(Debug, Drop)]
@@ -72,51 +69,69 @@ pub struct Order {
 /// A query.
 #[derive(Drop)]
 pub struct Select {
-    pub items: Items,
+    pub items: Items<Item>,
     pub table: Name,
     /// `FINAL`.
     pub merged: bool,
     /// `WHERE`.
     pub filter: Option<Expr>,
     /// `GROUP BY`; empty where it is not written.
-    pub keys: Exprs,
-    /// `ORDER BY`; empty where it is not written.
-    pub order: Orders,
+    pub keys: Items<Expr>,
+    /// `ORDER BY`, the most telling first; empty where it is not written.
+    pub order: Items<Order>,
     /// `LIMIT`, in rows.
     pub limit: Option<Digits>,
+}
+
+/// A statement that makes a table.
+#[derive(Drop)]
+pub struct CreateTable {
+    pub name: Name,
+    pub columns: ColumnDefs,
+    pub engine: EngineWord,
+    /// The names of the sorting key in order.
+    pub key: Names,
+    /// `non_replicated_deduplication_window`.
+    pub window: Option<Digits>,
+}
+
+/// A statement that makes a view.
+#[derive(Drop)]
+pub struct CreateView {
+    pub name: Name,
+    pub target: Name,
+    pub select: Select,
+}
+
+/// A statement that brings rows.
+#[derive(Drop)]
+pub struct Insert {
+    pub table: Name,
+    pub columns: Option<Names>,
+    pub settings: Settings,
+    pub rows: LiteralRows,
+}
+
+/// A look at the parts of a table.
+#[derive(Drop)]
+pub struct ShowParts {
+    pub table: Name,
+}
+
+/// A wish that the parts of a table be merged.
+#[derive(Drop)]
+pub struct Optimize {
+    pub table: Name,
 }
 
 /// A statement as it is written.
 #[derive(Drop)]
 pub enum Statement {
-    CreateTable {
-        name: Name,
-        columns: ColumnDefs,
-        engine: EngineWord,
-        /// The names of the sorting key in order.
-        key: Names,
-        /// `non_replicated_deduplication_window`.
-        window: Option<Digits>,
-    },
-    CreateView {
-        name: Name,
-        target: Name,
-        select: Select,
-    },
-    Insert {
-        table: Name,
-        columns: Option<Names>,
-        settings: Settings,
-        rows: LiteralRows,
-    },
-    Query {
-        select: Select,
-    },
-    ShowParts {
-        table: Name,
-    },
-    Optimize {
-        table: Name,
-    },
+    CreateTable(CreateTable),
+    CreateView(CreateView),
+    Insert(Insert),
+    Query(Select),
+    ShowParts(ShowParts),
+    Optimize(Optimize),
     FlushQueue,
 }

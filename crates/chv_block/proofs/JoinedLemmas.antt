@@ -44,11 +44,12 @@ joined-blocks_of sizes rows some =
     rows_of-joined (groups_of sizes [] (pieces_of sizes.max_rows rows))
     ∙ ap rows_of (groups_of-joined sizes [] (pieces_of sizes.max_rows rows) ∙ cut_into-joined (length rows) sizes.max_rows rows some (omega arith))
 
-abbrev HasRows : List Sized → Type 0
+-- it has rows
+abbrev pub HasRows : List Sized → Type 0
 HasRows rows = 1 ≤ length rows
 
 -- no piece is without rows
-cut_into-some : (count size : ℕ) (rows : List Sized) → 1 ≤ size → All HasRows (cut_into count size rows)
+pub cut_into-some : (count size : ℕ) (rows : List Sized) → 1 ≤ size → All HasRows (cut_into count size rows)
 cut_into-some zero size rows some = All-nil HasRows
 cut_into-some (suc count) size [] some = All-nil HasRows
 cut_into-some (suc count) size (row ∷ rows) some =

@@ -1,4 +1,5 @@
 pub mod BlockLemmas
+pub mod CutLemmas
 pub mod JoinedLemmas
 pub mod LawLemmas
 pub mod PieceLemmas

@@ -5,6 +5,7 @@ use Rattle.chv_bytes.specs.declared.integer.IntKind.{IntKind}
 use Rattle.chv_bytes.specs.declared.integer.IntKind.TheVariants.{U8, U16, U32, U64, I8, I16, I32, I64}
 use Rattle.chv_bytes.proofs.IntegerLemmas.{one_integer}
 use Rattle.chv_bytes.proofs.RunLemmas.{one_run}
+use Rattle.chv_types.specs.Fits.{IsOfScalar}
 use Rattle.chv_types.specs.Kinds.{range_of, LiesIn}
 use Rattle.chv_types.specs.declared.kind.Kind.{Kind}
 use Rattle.chv_types.specs.declared.kind.Kind.TheVariants as kind
@@ -12,7 +13,7 @@ use Rattle.chv_types.specs.declared.kind.Scalar.{Scalar}
 use Rattle.chv_types.specs.declared.kind.Scalar.TheVariants as scalar
 use Rattle.chv_types.specs.declared.value.Value.{Value}
 use Rattle.chv_types.specs.declared.value.Value.TheVariants.{Whole, Truth, Text, State}
-use Rattle.chv_block.specs.Spellings.{IsOf, IsOfScalar, integers_of, whole_spelling, truth_spelling, scalar_spelling, value_spelling}
+use Rattle.chv_block.specs.Spellings.{IsOf, integers_of, whole_spelling, truth_spelling, scalar_spelling, value_spelling}
 
 -- bytes begin with one integer of a kind at most
 one_whole : (plain : Scalar) (m n : ℤ) (x y : List ℕ) → LiesIn (range_of plain) m → LiesIn (range_of plain) n

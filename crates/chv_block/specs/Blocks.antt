@@ -1,5 +1,5 @@
 -- How the rows of an insert become blocks: docs/SQL.md, "Blocks".
-use Rattle.std.specs.Prelude.{ℕ, zero, suc, ◌≡◌, ◌+◌, ◌-◌, ◌<◌, ◌^◌, Bool, not, ◌&&◌, ◌||◌, nat_eq, nat_lt, min, List, [], ◌∷◌, ◌++◌, length, map, take, drop, if◌then◌else◌, Option, None, Some}
+use Rattle.std.specs.Prelude.{ℕ, zero, suc, ◌≡◌, ◌+◌, ◌-◌, ◌<◌, ◌≤◌, ◌^◌, Bool, true, false, not, ◌&&◌, ◌||◌, nat_eq, nat_lt, min, List, [], ◌∷◌, ◌++◌, length, map, take, drop, if◌then◌else◌, Option, None, Some}
 use Rattle.std.specs.List.{flat_map}
 use Rattle.chv_types.specs.declared.value.Value.{Value}
 use Rattle.chv_block.specs.declared.squasher.Sizes.{Sizes}
@@ -50,6 +50,25 @@ blocks_of sizes rows = map rows_of (groups_of sizes [] (pieces_of sizes.max_rows
 -- lists one behind the other, as one
 abbrev pub joined : {A : Type 0} → List (List A) → List A
 joined = flat_map (λ list. list)
+
+-- no pieces in front of the last of a group close it
+abbrev pub IsOpenBefore : Sizes → List (List Sized) → Type 0
+IsOpenBefore sizes group =
+    (front behind : List (List Sized)) → group ≡ front ++ behind → 1 ≤ length front → 1 ≤ length behind → is_closed sizes (joined front) ≡ false
+
+-- groups of pieces, of which each has one at least and is open before its last, and each but the last group is closed
+abbrev pub AreCut : Sizes → List (List (List Sized)) → Type 0
+AreCut sizes [] = Unit {0}
+AreCut sizes (group ∷ []) = (1 ≤ length group) × IsOpenBefore sizes group
+AreCut sizes (group ∷ (next ∷ groups)) =
+    (1 ≤ length group) × IsOpenBefore sizes group × (is_closed sizes (joined group) ≡ true) × AreCut sizes (next ∷ groups)
+
+-- how rows were cut into blocks: the pieces of the rows stand in groups, each of which is a block
+pub record IsCut (sizes : Sizes) (rows : List Sized) (blocks : List (List (List Value))) : Type 0 where
+  pub groups : List (List (List Sized))
+  pub pieces : joined groups ≡ pieces_of sizes.max_rows rows
+  pub are : blocks ≡ map (λ group. rows_of (joined group)) groups
+  pub cut : AreCut sizes groups
 
 -- what is left to come of an open group and an open piece, with the rows that follow them
 abbrev pub blocks_behind : Sizes → List Sized → List Sized → List Sized → List (List (List Value))

@@ -1,11 +1,11 @@
 -- Values, rows and blocks in bytes.
-use Rattle.std.specs.Prelude.{ℕ, ℤ, ◌≡◌, ◌≤◌, List, [], ◌∷◌, ◌++◌, length, Option, Some, None, Bool, true, false}
+use Rattle.std.specs.Prelude.{ℕ, ℤ, List, [], ◌∷◌, ◌++◌, length, Option, Some, None, Bool, true, false}
 use Rattle.std.specs.Int.{to_le_bytes, w32, w64}
 use Rattle.chv_bytes.specs.Integers.{int_bytes}
 use Rattle.chv_bytes.specs.Runs.{run_bytes}
 use Rattle.chv_bytes.specs.declared.integer.IntKind.{IntKind}
 use Rattle.chv_bytes.specs.declared.integer.IntKind.TheVariants.{U8, U16, U32, U64, I8, I16, I32, I64}
-use Rattle.chv_types.specs.Kinds.{range_of, LiesIn}
+use Rattle.chv_types.specs.Fits.{IsOfScalar}
 use Rattle.chv_types.specs.declared.kind.Kind.{Kind}
 use Rattle.chv_types.specs.declared.kind.Kind.TheVariants as kind
 use Rattle.chv_types.specs.declared.kind.Scalar.{Scalar}
@@ -43,13 +43,6 @@ integers_of scalar.Int32 = Some I32
 integers_of scalar.Int64 = Some I64
 integers_of scalar.Bool = None
 integers_of scalar.Text = None
-
--- a value is of a kind of plain values: in its range, or a truth, or a text of 1,048,576 bytes at most
-abbrev pub IsOfScalar : Scalar → Value → Type 0
-IsOfScalar plain (Whole n) = LiesIn (range_of plain) n
-IsOfScalar plain (Truth truth) = plain ≡ scalar.Bool
-IsOfScalar plain (Text text) = (plain ≡ scalar.Text) × (length text ≤ 1048576)
-IsOfScalar plain (State spelling) = ⊥
 
 -- a value is of a kind, of which those of states have none yet
 abbrev pub IsOf : Kind → Value → Type 0

@@ -1,5 +1,5 @@
 // Blocks in bytes.
-ghost use Rattle.std.specs.Prelude.{◌≡◌, ◌++◌, ◌∷◌, [], length, IfOk, OnOk};
+ghost use Rattle.std.specs.Prelude.{◌≡◌, ◌++◌, ◌∷◌, [], length, IfOk, OnOk, OnErr};
 ghost use Rattle.std.specs.Int.{to_le_bytes, w32, w64};
 ghost use Rattle.std.specs.List.{All};
 ghost use Rattle.chv_types.specs.Values.{IsPlain};
@@ -25,16 +25,20 @@ pub fn block_bytes(alloc: Global, kinds: &Kinds, block: &Block) -> Result<Bytes,
     let rows = block.len() as u64;
     out.extend_from_slice(&rows.to_le_bytes())?;
     put_rows(&mut out, kinds.as_slice(), block.as_slice())?;
-    Ok(Bytes::of_items(out))
+    Ok(Bytes::from_vec(out))
 }
 
-/// Puts the kinds of columns behind `out`: how many there are, in 4 bytes, and the code of each.
+/// Puts the kinds of columns behind `out`: how many there are, in 4 bytes, and the code of each. An `Err` leaves what was
+/// there.
 pub fn put_kinds(out: &mut Vec<u8>, kinds: &[Kind]) -> Result<(), AllocError>
     requires plain { All IsPlain kinds.now }
-    ensures { OnOk result (out.new.items ≡ out.old.items ++ to_le_bytes w32 (length kinds.now) ++ codes_of kinds.now) }
+    ensures put { OnOk result (out.new.items ≡ out.old.items ++ to_le_bytes w32 (length kinds.now) ++ codes_of kinds.now) }
+    ensures err { OnErr result (out.new.items ≡ out.old.items) }
 {
-    put_columns(out, kinds.len())?;
-    put_codes(out, kinds)
+    let mut head = Vec::new(*out.allocator());
+    put_columns(&mut head, kinds.len())?;
+    put_codes(&mut head, kinds)?;
+    out.extend_from_slice(&head)
 }
 
 // Puts the number of columns behind `out`.

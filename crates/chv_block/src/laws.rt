@@ -3,7 +3,7 @@ ghost use Rattle.std.specs.Prelude.{List, ℕ, ◌≡◌, ◌<◌, ◌≤◌, �
 ghost use Rattle.std.specs.List.{All};
 ghost use Rattle.chv_types.specs.declared.kind.Kind.{Kind};
 ghost use Rattle.chv_types.specs.declared.value.Value.{Value};
-ghost use Rattle.chv_block.specs.Blocks.{Sized, blocks_of, joined, rows_of};
+ghost use Rattle.chv_block.specs.Blocks.{Sized, IsCut, blocks_of, joined, rows_of};
 ghost use Rattle.chv_block.specs.declared.squasher.Sizes.{Sizes};
 ghost use Rattle.chv_block.specs.Spellings.{IsOf, value_spelling, AreOf, row_spelling, AllAreOf, block_spelling};
 
@@ -23,6 +23,11 @@ pub fn law_row_reads_back()
 pub fn law_block_reads_back()
     ensures { (kinds : List Kind) (a b : List (List Value)) (x y : List ℕ) → length a < 2 ^ 64 → length b < 2 ^ 64 → AllAreOf kinds a → AllAreOf kinds b
         → block_spelling kinds a ++ x ≡ block_spelling kinds b ++ y → (a ≡ b) × (x ≡ y) }
+{}
+
+/// The blocks of an insert are groups of its pieces: each but the last is closed, and none is closed before its last piece.
+pub fn law_blocks_are_cut()
+    ensures { (sizes : Sizes) (rows : List Sized) → 1 ≤ sizes.max_rows → IsCut sizes rows (blocks_of sizes rows) }
 {}
 
 /// The blocks of an insert, one behind the other, are its rows in order, and no block is without rows.

@@ -10,7 +10,8 @@ mod squasher;
 
 pub use block::{block_bytes, put_kinds};
 pub use laws::{
-    law_block_reads_back, law_blocks_keep_rows, law_row_reads_back, law_value_reads_back,
+    law_block_reads_back, law_blocks_are_cut, law_blocks_keep_rows, law_row_reads_back,
+    law_value_reads_back,
 };
 pub use read::read_value;
 pub use size::row_size;

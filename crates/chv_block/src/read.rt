@@ -2,10 +2,11 @@
 ghost use Rattle.std.specs.Prelude.{List, ℕ, ◌≡◌, ◌≢◌, ◌≤◌, ◌++◌, length, drop, IfOk, IfSome, IsNone};
 ghost use Rattle.chv_bytes.specs.Places.{StandsAt};
 ghost use Rattle.chv_bytes.specs.Runs.{run_bytes};
+ghost use Rattle.chv_types.specs.Fits.{IsOfScalar};
 ghost use Rattle.chv_types.specs.Kinds.{range_of, LiesIn};
 ghost use Rattle.chv_types.specs.Values.{IsPlain};
 ghost use Rattle.chv_types.specs.declared.value.Value.{Value as Seen};
-ghost use Rattle.chv_block.specs.Spellings.{IsOf, IsOfScalar, integers_of, whole_spelling, truth_spelling, value_spelling, scalar_spelling};
+ghost use Rattle.chv_block.specs.Spellings.{IsOf, integers_of, whole_spelling, truth_spelling, value_spelling, scalar_spelling};
 
 use chv_bytes::{IntKind, read_int, read_run};
 use chv_types::{Bytes, Kind, MAX_TEXT, Scalar, Value};
@@ -100,9 +101,8 @@ fn read_text(alloc: Global, bytes: &[u8], at: usize) -> Result<Option<(Value, us
             if end - start > MAX_TEXT {
                 return Ok(None);
             }
-            let mut text = Vec::new(alloc);
-            text.extend_from_slice(&bytes[start..end])?;
-            Ok(Some((Value::Text(Bytes::of_items(text)), end)))
+            let text = Bytes::from_slice(alloc, &bytes[start..end])?;
+            Ok(Some((Value::Text(text), end)))
         }
         None => Ok(None),
     }

@@ -1,7 +1,8 @@
 // How many bytes values have.
 ghost use Rattle.std.specs.Prelude.{ℤ, ◌≡◌, ◌≤◌, length};
+ghost use Rattle.chv_types.specs.Fits.{IsOfScalar};
 ghost use Rattle.chv_types.specs.Kinds.{range_of, LiesIn};
-ghost use Rattle.chv_block.specs.Spellings.{IsOf, IsOfScalar, AreOf, integers_of, whole_spelling, scalar_spelling, value_spelling, row_spelling};
+ghost use Rattle.chv_block.specs.Spellings.{IsOf, AreOf, integers_of, whole_spelling, scalar_spelling, value_spelling, row_spelling};
 
 use chv_types::{Kind, Row, Scalar, Value};
 

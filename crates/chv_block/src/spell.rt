@@ -1,7 +1,8 @@
 // Values in bytes.
 ghost use Rattle.std.specs.Prelude.{◌≡◌, ◌++◌, OnOk, OnErr};
+ghost use Rattle.chv_types.specs.Fits.{IsOfScalar};
 ghost use Rattle.chv_types.specs.Kinds.{range_of, LiesIn};
-ghost use Rattle.chv_block.specs.Spellings.{IsOf, IsOfScalar, integers_of, whole_spelling, value_spelling, scalar_spelling};
+ghost use Rattle.chv_block.specs.Spellings.{IsOf, integers_of, whole_spelling, value_spelling, scalar_spelling};
 
 use chv_bytes::{IntKind, put_int, put_run};
 use chv_types::{Kind, Scalar, Value};

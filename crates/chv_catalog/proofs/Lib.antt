@@ -1,3 +1,6 @@
+pub mod FaultLemmas
+pub mod ListLemmas
 pub mod NameLemmas
 pub mod Positions
 pub mod SchemaLemmas
+pub mod StepLemmas

@@ -8,7 +8,7 @@ use Rattle.std.proofs.lemmas.Cmp.{nat_list_eq_equiv}
 use Rattle.indexmap.specs.IndexSet.{insert_key}
 use Rattle.chv_catalog.proofs.Positions.{is_some-position}
 use Rattle.chv_catalog.specs.Names.{texts_of}
-use Rattle.chv_catalog.specs.Schemas.{place_of}
+use Rattle.chv_types.specs.Names.{place_of}
 
 prefix_len-texts_of : (name : List ℕ) (keys : List (Vec ℕ Global))
     → prefix_len (λ key. not (bytes_eq name key.items)) keys ≡ prefix_len (λ other. not (bytes_eq other name)) (texts_of keys)

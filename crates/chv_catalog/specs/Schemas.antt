@@ -1,21 +1,17 @@
 -- The tables of a store.
 use Rattle.std.specs.Prelude.{ℕ, ◌<◌, ◌≤◌, List, [], ◌∷◌, map, Option, None, Some}
-use Rattle.std.specs.List.{position, Contains}
-use Rattle.std.specs.Str.{bytes_eq}
+use Rattle.std.specs.List.{Contains}
 use Rattle.std.specs.declared.alloc.Global.{Global}
 use Rattle.std.specs.declared.vec.Vec.{Vec}
 use Rattle.std.specs.Vec.{vec_len, vec_capacity}
 use Rattle.chv_types.specs.declared.kind.Kind.{Kind}
+pub use Rattle.chv_types.specs.Names.{place_of}
 use Rattle.chv_catalog.specs.Names.{Named}
 use Rattle.chv_catalog.specs.declared.table_def.TableDef.{TableDef}
 
 -- the names of tables, in order
 abbrev pub names_of : List TableDef → List (List ℕ)
 names_of defs = map (λ def. def.name) defs
-
--- the place of a name in a list of names
-abbrev pub place_of : List ℕ → List (List ℕ) → Option ℕ
-place_of name names = position (λ other. bytes_eq other name) names
 
 -- the kinds of a table's columns
 abbrev pub kinds_of : TableDef → List Kind

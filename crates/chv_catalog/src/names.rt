@@ -1,6 +1,6 @@
 // Names and their places.
 ghost use Rattle.std.specs.Prelude.{◌≡◌, ◌≢◌, ◌++◌, ◌∷◌, ◌≤◌, ◌<◌, ◌+◌, [], ℕ, length, None, IfSome, OnOk, OnErr};
-ghost use Rattle.chv_catalog.specs.Schemas.{place_of};
+ghost use Rattle.chv_types.specs.Names.{place_of};
 
 use indexmap::IndexSet;
 use std::alloc::{AllocError, Global};

@@ -28,6 +28,6 @@ impl TableDef {
         for column in self.columns.as_slice() {
             kinds.push(column.kind)?;
         }
-        Ok(Kinds::of_items(kinds))
+        Ok(Kinds::from_vec(kinds))
     }
 }

@@ -8,7 +8,7 @@ use Rattle.std.proofs.lemmas.List.Elements.{All-nil, All-cons, All-weaker}
 use Rattle.std.proofs.lemmas.List.Sums.{position_or_len_is}
 use Rattle.std.proofs.lemmas.List.Quantifiers.{position-Some}
 use Rattle.std.specs.List.{All, position, position_or_len}
-use Rattle.chv_commit.specs.Replays.{Span, span_of, AreRuns, greatest_level, joined}
+use Rattle.chv_commit.specs.Replays.{Span, span_of, AreRuns, IsJoined, greatest_level, joined}
 use Rattle.chv_commit.specs.declared.part_row.PartRow.{PartRow}
 use Rattle.chv_commit.proofs.ReplayLemmas.{at_place-Some}
 
@@ -43,18 +43,6 @@ AreRuns-last first last n [] d runs long = absurd (omega arith)
 AreRuns-last first last zero (row ∷ []) d runs long = omega (arith, runs.2)
 AreRuns-last first last zero (row ∷ other ∷ rows) d runs long = absurd (omega arith)
 AreRuns-last first last (suc n) (row ∷ rows) d runs long = AreRuns-last (row.hi + 1) last n rows d runs.2 (omega arith)
-
--- the parts of a run became one
-pub record IsJoined (row : PartRow) (old new : List PartRow) : Type 0 where
-  pub front : List PartRow
-  pub run : List PartRow
-  pub behind : List PartRow
-  pub old_is : old ≡ front ++ (run ++ behind)
-  pub new_is : new ≡ front ++ row ∷ behind
-  pub several : 2 ≤ length run
-  pub begins : (get_or run 0 row).lo ≡ row.lo
-  pub ends : (get_or run (length run - 1) row).hi ≡ row.hi
-  pub level : row.level ≡ greatest_level run + 1
 
 -- both of two tests passed
 pub both : (a b : Bool) → (a && b) ≡ true → (a ≡ true) × (b ≡ true)

@@ -7,12 +7,12 @@ use Rattle.std.proofs.lemmas.List.Kept.{AllPairs-cons}
 use Rattle.std.proofs.lemmas.List.Quantifiers.{all_pairs_push}
 use Rattle.std.specs.List.{All, AllPairs}
 use Rattle.chv_sip.specs.declared.block_id.BlockId.{BlockId}
-use Rattle.chv_commit.specs.Replays.{MAX_ENTRIES, State, no_state, span_of, IsSound, added, greatest_level, taken, replayed}
+use Rattle.chv_commit.specs.Replays.{MAX_ENTRIES, State, no_state, span_of, IsJoined, IsSound, added, greatest_level, taken, replayed}
 use Rattle.chv_commit.specs.declared.commit.Commit.{Commit}
 use Rattle.chv_commit.specs.declared.commit.Commit.TheVariants.{Add, Merge}
 use Rattle.chv_commit.specs.declared.part_row.PartRow.{PartRow}
 use Rattle.chv_commit.proofs.ReplayLemmas.{at_place-Some}
-use Rattle.chv_commit.proofs.RunLemmas.{IsJoined, length-joined, AreRuns-append, AreRuns-joined}
+use Rattle.chv_commit.proofs.RunLemmas.{length-joined, AreRuns-append, AreRuns-joined}
 use Rattle.chv_commit.proofs.TakenLemmas.{taken-Some_add, taken-Some_merge}
 
 -- what holds of each of a list holds of each of a part of it

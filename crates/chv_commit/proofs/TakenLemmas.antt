@@ -1,5 +1,5 @@
 -- Commits that are taken, and what a log says behind them.
-use Rattle.std.proofs.Common.{◌≡◌, ◌+◌, ◌≤◌, ◌++◌, ◌∷◌, [], ◌∙◌, ◌&&◌, not, ℕ, Bool, true, false, if◌then◌else◌, nat_eq, nat_lt, List, Option, None, Some, length, sym, ap, arith, refl}
+use Rattle.std.proofs.Common.{◌≡◌, ◌+◌, ◌≤◌, ◌++◌, ◌∷◌, [], ◌∙◌, ◌&&◌, not, ℕ, Bool, true, false, if◌then◌else◌, nat_eq, nat_lt, List, Option, None, Some, length, map, sym, ap, subst, arith, refl}
 use Rattle.std.proofs.lemmas.Bool.{eqb-true, eq-eqb, ltb-true}
 use Rattle.std.proofs.lemmas.Bool.Decides.{nat_tests}
 use Rattle.std.proofs.lemmas.Option.{cond_some, same_Some}
@@ -7,28 +7,13 @@ use Rattle.std.proofs.lemmas.List.{map_push}
 use Rattle.std.proofs.lemmas.List.Elements.{All-push}
 use Rattle.chv_sip.specs.declared.block_id.BlockId.{BlockId}
 use Rattle.chv_commit.specs.Commits.{commit_spelling, IsCommit}
-use Rattle.chv_commit.specs.Replays.{MAX_ENTRIES, State, no_state, add_fits, added, joined, at_place, taken, replayed, AreCommits}
+use Rattle.chv_commit.specs.Replays.{MAX_ENTRIES, State, no_state, add_fits, added, IsJoined, joined, Adds, Merges, Takes, AreRuns, span_of, IsSound, at_place, taken, replayed, AreCommits}
 use Rattle.chv_commit.specs.declared.commit.Commit.{Commit}
 use Rattle.chv_commit.specs.declared.commit.Commit.TheVariants.{Add, Merge}
 use Rattle.chv_commit.specs.declared.part_row.PartRow.{PartRow}
 use Rattle.chv_commit.proofs.CommitLemmas.{map_commit_spelling-injective}
 use Rattle.chv_commit.proofs.ReplayLemmas.{at_place-Some, replayed-more}
-use Rattle.chv_commit.proofs.RunLemmas.{IsJoined, joined-Some, both}
-
--- new entries fit, and this is what a log says behind them
-pub record Adds (window part rows : ℕ) (ids : List BlockId) (old new : State) : Type 0 where
-  pub in_turn : part ≡ old.next_part
-  pub some : 1 ≤ length ids
-  pub room : old.entries + length ids ≤ MAX_ENTRIES
-  pub new_is : new ≡ added window part rows ids old
-
--- parts that become one fit, and this is what a log says behind them
-pub record Merges (row : PartRow) (old new : State) : Type 0 where
-  pub in_turn : row.part ≡ old.next_part
-  pub layout : List PartRow
-  pub joins : joined row old.layout ≡ Some layout
-  pub is : IsJoined row old.layout layout
-  pub new_is : new ≡ record old { layout = layout; next_part = old.next_part + 1 }
+use Rattle.chv_commit.proofs.RunLemmas.{joined-Some, joined-run, both}
 
 in_turn-Some : {A : Type 0} (turn : Bool) (o : Option A) (y : A) → (if turn then o else None) ≡ Some y → (turn ≡ true) × (o ≡ Some y)
 in_turn-Some true o y e = (refl, e)
@@ -57,7 +42,6 @@ taken-Some_merge window lo hi part level rows old new e =
     record {
       in_turn = eqb-true part old.next_part turn.0;
       layout = joins.0;
-      joins = joins.1;
       is = joined-Some row old.layout joins.0 joins.1;
       new_is = sym (same_Some _ new joins.2);
     }
@@ -73,6 +57,28 @@ taken-add window part rows ids old in_turn some room =
 pub taken-merge : (window : ℕ) (row : PartRow) (old : State) (layout : List PartRow) → row.part ≡ old.next_part → joined row old.layout ≡ Some layout
     → taken window old (Merge row.lo row.hi row.part row.level row.rows) ≡ Some (record old { layout = layout; next_part = old.next_part + 1 })
 taken-merge window row old layout in_turn joins = rw (eq-eqb row.part old.next_part in_turn, joins) refl
+
+-- a commit that is taken fits
+pub taken-Takes : (window : ℕ) (old new : State) (commit : Commit) → taken window old commit ≡ Some new → Takes window old commit new
+taken-Takes window old new (Add part rows ids) e = taken-Some_add window part rows ids old new e
+taken-Takes window old new (Merge lo hi part level rows) e = taken-Some_merge window lo hi part level rows old new e
+
+-- a run of live parts that cut the entries is found where it becomes one
+joined-IsJoined : (row : PartRow) (state : State) (new : List PartRow) → IsSound state → IsJoined row state.layout new → joined row state.layout ≡ Some new
+joined-IsJoined row state new sound is =
+    ap (joined row) is.old_is
+    ∙ joined-run row state.entries is.front is.run is.behind (subst (λ (l : List PartRow). AreRuns 1 state.entries (map span_of l)) is.old_is sound.runs)
+    is.several (sym is.begins) (sym is.ends) is.level
+    ∙ ap (λ (l : List PartRow). Some l) (sym is.new_is)
+
+-- a commit that fits is taken
+pub taken-from_Takes : (window : ℕ) (old new : State) (commit : Commit) → IsSound old → Takes window old commit new → taken window old commit ≡ Some new
+taken-from_Takes window old new (Add part rows ids) sound adds =
+    taken-add window part rows ids old adds.in_turn adds.some adds.room ∙ ap (λ (s : State). Some s) (sym adds.new_is)
+taken-from_Takes window old new (Merge lo hi part level rows) sound merges =
+    let row : PartRow = record { lo = lo; hi = hi; level = level; part = part; rows = rows } in
+    taken-merge window row old merges.layout merges.in_turn (joined-IsJoined row old merges.layout sound merges.is)
+    ∙ ap (λ (s : State). Some s) (sym merges.new_is)
 
 -- payloads that are a log's, and one more behind them
 pub AreCommits-append : (window : ℕ) (payloads : List (List ℕ)) (commit : Commit) (end : State) (are : AreCommits window payloads) → IsCommit commit

@@ -1,5 +1,5 @@
 -- The payloads of a table's log: docs/FORMATS.md, "Commits".
-use Rattle.std.specs.Prelude.{ℕ, ◌<◌, ◌≤◌, ◌^◌, List, [], ◌∷◌, ◌++◌, length}
+use Rattle.std.specs.Prelude.{ℕ, ◌≡◌, ◌+◌, ◌*◌, ◌<◌, ◌≤◌, ◌^◌, List, [], ◌∷◌, ◌++◌, length, take, drop}
 use Rattle.std.specs.Int.{w32, w64, to_le_bytes}
 use Rattle.std.specs.List.{All, flat_map}
 use Rattle.chv_sip.specs.declared.block_id.BlockId.{BlockId}
@@ -17,6 +17,10 @@ commit_spelling (Add part rows ids) =
     (1 ∷ []) ++ to_le_bytes w64 part ++ to_le_bytes w64 rows ++ to_le_bytes w32 (length ids) ++ flat_map id_spelling ids
 commit_spelling (Merge lo hi part level rows) =
     (2 ∷ []) ++ to_le_bytes w64 lo ++ to_le_bytes w64 hi ++ to_le_bytes w64 part ++ to_le_bytes w64 level ++ to_le_bytes w64 rows
+
+-- the bytes of new entries behind the first: they tell as many ids, of which there is one at least, as they have bytes for
+abbrev pub TellsItsIds : List ℕ → Type 0
+TellsItsIds bytes = (count : ℕ) × (1 ≤ count) × (length bytes ≡ 20 + 16 * count) × (take 4 (drop 16 bytes) ≡ to_le_bytes w32 count)
 
 -- the words of an id are numbers of 64 bits
 abbrev pub AreWords : BlockId → Type 0

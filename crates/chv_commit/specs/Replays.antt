@@ -1,5 +1,5 @@
 -- What a table's log says, commit by commit: docs/FORMATS.md, "Commits".
-use Rattle.std.specs.Prelude.{ℕ, ◌≡◌, ◌≢◌, ◌+◌, ◌*◌, ◌≤◌, ◌<◌, ◌^◌, Bool, not, ◌&&◌, nat_eq, nat_lt, max, List, [], ◌∷◌, ◌++◌, length, map, take, drop, slice_range, if◌then◌else◌, Option, None, Some}
+use Rattle.std.specs.Prelude.{ℕ, ◌≡◌, ◌≢◌, ◌+◌, ◌-◌, ◌*◌, ◌≤◌, ◌<◌, ◌^◌, Bool, not, ◌&&◌, nat_eq, nat_lt, max, List, [], ◌∷◌, ◌++◌, length, map, take, drop, slice_range, slice_index_or, if◌then◌else◌, Option, None, Some}
 use Rattle.std.specs.List.{All, AllPairs, position}
 use Rattle.chv_sip.specs.BlockIds.{last_ids}
 use Rattle.chv_sip.specs.declared.block_id.BlockId.{BlockId}
@@ -56,7 +56,39 @@ joined row layout =
     then Some (take from layout ++ row ∷ drop (last + 1) layout)
     else None))
 
--- what a log says behind one more commit, where it fits
+-- the parts of a run of two or more became one, which begins and ends as they do; its level is one above their greatest
+pub record IsJoined (row : PartRow) (old new : List PartRow) : Type 0 where
+  pub front : List PartRow
+  pub run : List PartRow
+  pub behind : List PartRow
+  pub old_is : old ≡ front ++ (run ++ behind)
+  pub new_is : new ≡ front ++ row ∷ behind
+  pub several : 2 ≤ length run
+  pub begins : (slice_index_or run 0 row).lo ≡ row.lo
+  pub ends : (slice_index_or run (length run - 1) row).hi ≡ row.hi
+  pub level : row.level ≡ greatest_level run + 1
+
+-- new entries fit, and this is what a log says behind them
+pub record Adds (window part rows : ℕ) (ids : List BlockId) (old new : State) : Type 0 where
+  pub in_turn : part ≡ old.next_part
+  pub some : 1 ≤ length ids
+  pub room : old.entries + length ids ≤ MAX_ENTRIES
+  pub new_is : new ≡ added window part rows ids old
+
+-- parts that become one fit, and this is what a log says behind them
+pub record Merges (row : PartRow) (old new : State) : Type 0 where
+  pub in_turn : row.part ≡ old.next_part
+  pub layout : List PartRow
+  pub is : IsJoined row old.layout layout
+  pub new_is : new ≡ record old { layout = layout; next_part = old.next_part + 1 }
+
+-- a commit fits, and this is what a log says behind it
+abbrev pub Takes : ℕ → State → Commit → State → Type 0
+Takes window old (Add part rows ids) new = Adds window part rows ids old new
+Takes window old (Merge lo hi part level rows) new =
+    Merges (record { lo = lo; hi = hi; level = level; part = part; rows = rows }) old new
+
+-- what a log says behind one more commit, where it fits; for a sound log it is what `Takes` tells
 abbrev pub taken : ℕ → State → Commit → Option State
 taken window state (Add part rows ids) =
     if add_fits part (length ids) state then Some (added window part rows ids state) else None
@@ -104,7 +136,9 @@ pub record AreCommits (window : ℕ) (payloads : List (List ℕ)) : Type 0 where
   pub state : State
   pub replays : replayed window no_state commits ≡ Some state
 
--- a replay as contracts see it: how many ids it keeps, and what the commits so far say
+-- a replay as contracts see it: how many ids it keeps, what the commits so far say, and for how many new entries it has room
+-- in memory
 pub record Seen : Type 0 where
   pub window : ℕ
   pub state : State
+  pub spare : ℕ

@@ -1,9 +1,9 @@
 // Commits.
-use chv_ast::Seq;
 use chv_sip::BlockId;
+use sqlite_items::Items;
 
 /// Ids in order.
-pub type Ids = Seq<BlockId>;
+pub type Ids = Items<BlockId>;
 
 /// What one frame of a table's log says.
 #[derive(Debug, Drop)]

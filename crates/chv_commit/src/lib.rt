@@ -10,7 +10,7 @@ mod replay;
 mod spelling;
 
 pub use commit::{Commit, Ids};
-pub use laws::{law_commit_reads_back, law_log_is_short, law_replay_is_sound};
+pub use laws::{law_commit_is_taken, law_commit_reads_back, law_log_is_short, law_replay_is_sound};
 pub use part_row::PartRow;
 pub use reading::read_commit;
 pub use replay::{MAX_ENTRIES, Replay};

@@ -1,23 +1,23 @@
 // Payloads as commits.
-ghost use Rattle.std.specs.Prelude.{◌≡◌, ◌≢◌, ◌++◌, ◌+◌, ◌*◌, ◌<◌, ◌≤◌, ◌^◌, ℕ, List, length, IfOk, IfSome, IsNone, IsTrue, ◌↔◌, ◌∷◌};
+ghost use Rattle.std.specs.Prelude.{◌≡◌, ◌≢◌, ◌++◌, ◌+◌, ◌*◌, ◌<◌, ◌≤◌, ◌^◌, ℕ, List, length, drop, IfOk, IfSome, IsErr, IsNone, IsTrue, ◌↔◌, ◌∷◌};
 ghost use Rattle.std.specs.Int.{w32, w64, to_le_bytes};
 ghost use Rattle.std.specs.List.{All, flat_map};
 ghost use Rattle.chv_sip.specs.declared.block_id.BlockId.{BlockId as Id};
-ghost use Rattle.chv_commit.specs.Commits.{commit_spelling, id_spelling, AreWords, IsCommit};
+ghost use Rattle.chv_commit.specs.Commits.{commit_spelling, id_spelling, AreWords, IsCommit, TellsItsIds};
 ghost use Rattle.chv_commit.specs.declared.commit.Commit.{Commit as Seen};
 ghost use Rattle.chv_commit.specs.declared.commit.Commit.TheVariants.{Add, Merge};
 
 use crate::{Commit, Ids};
 use byteorder::{ByteOrder, LittleEndian};
-use chv_ast::Seq;
 use chv_sip::BlockId;
 use std::alloc::{AllocError, Global};
 
 /// The commit of a payload; None exactly where it is that of none. No number in it is trusted: memory is taken for as many
-/// ids as the payload has.
+/// ids as the payload has, and only where it tells so many.
 pub fn read_commit(alloc: Global, payload: &[u8]) -> Result<Option<Commit>, AllocError>
     ensures some { IfOk result (λ read. IfSome read (λ commit. IsCommit commit × (payload.now ≡ commit_spelling commit))) }
     ensures none { IfOk result (λ read. IsNone read → (commit : Seen) → IsCommit commit → payload.now ≢ commit_spelling commit) }
+    ensures err { IsErr result → TellsItsIds (drop 1 payload.now) }
 {
     match payload.split_first() {
         Some((&1, rest)) => read_add(alloc, rest),
@@ -30,6 +30,7 @@ pub fn read_commit(alloc: Global, payload: &[u8]) -> Result<Option<Commit>, Allo
 fn read_add(alloc: Global, bytes: &[u8]) -> Result<Option<Commit>, AllocError>
     ensures some { IfOk result (λ read. IfSome read (λ commit. IsCommit commit × (1 ∷ bytes.now ≡ commit_spelling commit))) }
     ensures none { IfOk result (λ read. IsNone read → (part rows : ℕ) (ids : List Id) → IsCommit (Add part rows ids) → 1 ∷ bytes.now ≢ commit_spelling (Add part rows ids)) }
+    ensures err { IsErr result → TellsItsIds bytes.now }
 {
     if bytes.len() < 20 {
         return Ok(None);
@@ -67,7 +68,7 @@ fn read_ids(alloc: Global, bytes: &[u8], count: usize) -> Result<Ids, AllocError
         ids.push(BlockId { first, second })?;
         rest = behind;
     }
-    Ok(Seq::of_items(ids))
+    Ok(Ids::from_vec(ids))
 }
 
 // The parts that become one, which are spelled behind the first byte.

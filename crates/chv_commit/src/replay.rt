@@ -1,11 +1,11 @@
 // What a table's log says, commit by commit.
-ghost use Rattle.std.specs.Prelude.{◌≡◌, ◌+◌, ◌*◌, ◌<◌, ◌≤◌, ◌^◌, false, length, if◌then◌else◌, None, Some, IfOk, OnErr};
+ghost use Rattle.std.specs.List.{Contains};
+ghost use Rattle.std.specs.Prelude.{◌≡◌, ◌↔◌, ◌+◌, ◌*◌, ◌<◌, ◌≤◌, ◌^◌, ◌∷◌, [], false, length, if◌then◌else◌, None, Some, IfOk, IsTrue, OnOk, OnErr};
 ghost use Rattle.chv_commit.specs.Replays.{MAX_ENTRIES, no_state, add_fits, added, taken};
 ghost use Rattle.chv_commit.specs.declared.commit.Commit.TheVariants.{Add, Merge};
 
 use crate::layout::join;
 use crate::{Commit, Ids, PartRow};
-use chv_ast::Seq;
 use chv_sip::BlockId;
 use circular_buffer::HeapCircularBuffer;
 use std::alloc::{AllocError, Global};
@@ -28,12 +28,13 @@ pub struct Replay {
 }
 
 impl Model for Replay {
-    ghost use Rattle.std.specs.Prelude.{◌+◌, ◌*◌, ◌≤◌, length};
+    ghost use Rattle.std.specs.Prelude.{◌+◌, ◌-◌, ◌*◌, ◌≤◌, length};
+    ghost use Rattle.std.specs.Vec.{vec_capacity, vec_len};
     ghost use Rattle.chv_commit.specs.Replays.{Seen, MAX_ENTRIES};
 
     ghost Value = { Seen };
 
-    ghost view = { λ r. record { window = r.ids.capacity; state = record { layout = r.layout.items; entries = r.entries; next_part = r.next_part; ids = r.ids.items } } };
+    ghost view = { λ r. record { window = r.ids.capacity; state = record { layout = r.layout.items; entries = r.entries; next_part = r.next_part; ids = r.ids.items }; spare = vec_capacity r.layout - vec_len r.layout } };
 
     // Each entry pays for the number of the part that it comes with, and for that part's place in the layout. Parts that
     // become one give back a place at least, which pays for the number that they take.
@@ -43,7 +44,7 @@ impl Model for Replay {
 impl Replay {
     /// No commit was taken. Of the entries' ids so many are kept, for which all memory is taken now.
     pub fn new(alloc: Global, window: u32) -> Result<Replay, AllocError>
-        ensures { IfOk result (λ replay. replay ≡ record { window = window; state = no_state }) }
+        ensures { IfOk result (λ replay. (replay.window ≡ window) × (replay.state ≡ no_state)) }
     {
         Ok(Replay {
             layout: Vec::new(alloc),
@@ -78,6 +79,26 @@ impl Replay {
         }
     }
 
+    /// Makes room in memory for so many entries. After an `Err` the replay may be used as before.
+    pub fn reserve(&mut self, count: usize) -> Result<(), AllocError>
+        ensures room { OnOk result (count ≤ self.new.spare) }
+        ensures kept { self.old.spare ≤ self.new.spare }
+        ensures same { (self.new.window ≡ self.old.window) × (self.new.state ≡ self.old.state) }
+    {
+        self.layout.reserve(count)
+    }
+
+    /// Takes one new entry, with the next part, which holds so many rows. It takes no memory.
+    pub fn take_one(&mut self, rows: u64, id: BlockId)
+        requires room { 1 ≤ self.old.spare }
+        requires entries { self.old.state.entries < MAX_ENTRIES }
+        ensures state { self.new.state ≡ added self.old.window self.old.state.next_part rows (id ∷ []) self.old.state }
+        ensures window { self.new.window ≡ self.old.window }
+        ensures spare { self.old.spare ≤ self.new.spare + 1 }
+    {
+        self.put(rows, &[id]);
+    }
+
     // Takes new entries.
     fn take_add(&mut self, part: u64, rows: u64, ids: &[BlockId]) -> Result<bool, AllocError>
         ensures taken { IfOk result (λ fits. taken self.old.window self.old.state (Add part rows ids.now) ≡ (if fits then Some self.new.state else None)) }
@@ -89,17 +110,31 @@ impl Replay {
         if part != self.next_part || count == 0 || count > MAX_ENTRIES - self.entries {
             return Ok(false);
         }
-        self.layout.push(PartRow {
+        self.layout.reserve(1)?;
+        self.put(rows, ids);
+        Ok(true)
+    }
+
+    // Puts new entries behind the others, with the next part, for which there is room.
+    fn put(&mut self, rows: u64, ids: &[BlockId])
+        requires room { 1 ≤ self.old.spare }
+        requires some { 1 ≤ length ids.now }
+        requires entries { self.old.state.entries + length ids.now ≤ MAX_ENTRIES }
+        ensures state { self.new.state ≡ added self.old.window self.old.state.next_part rows ids.now self.old.state }
+        ensures window { self.new.window ≡ self.old.window }
+        ensures spare { self.old.spare ≤ self.new.spare + 1 }
+    {
+        let count = ids.len() as u64;
+        self.layout.push_reserved(PartRow {
             lo: self.entries + 1,
             hi: self.entries + count,
             level: 0,
-            part,
+            part: self.next_part,
             rows,
-        })?;
+        });
         self.entries += count;
         self.next_part += 1;
         self.ids.extend_from_slice(ids);
-        Ok(true)
     }
 
     // Takes parts that become one.
@@ -146,10 +181,17 @@ impl Replay {
         self.next_part
     }
 
+    /// Whether an id is among those of the last entries.
+    pub fn has(&self, id: BlockId) -> bool
+        ensures { IsTrue result ↔ Contains self.now.state.ids id }
+    {
+        self.ids.iter().any(|held| *held == id)
+    }
+
     /// The ids of the last entries, the oldest first.
     pub fn ids(&self, alloc: Global) -> Result<Ids, AllocError>
         ensures { IfOk result (λ ids. ids ≡ self.now.state.ids) }
     {
-        Ok(Seq::of_items(self.ids.to_vec(alloc)?))
+        Ok(Ids::from_vec(self.ids.to_vec(alloc)?))
     }
 }

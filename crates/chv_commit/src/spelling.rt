@@ -6,8 +6,8 @@ ghost use Rattle.chv_commit.specs.Commits.{commit_spelling, id_spelling, IsCommi
 ghost use Rattle.chv_commit.specs.declared.commit.Commit.TheVariants.{Add, Merge};
 
 use crate::Commit;
-use chv_ast::Seq;
 use chv_sip::BlockId;
+use sqlite_items::Items;
 use std::alloc::{AllocError, Global};
 
 // What the payload of new entries begins with.
@@ -17,7 +17,7 @@ const NEW_ENTRIES: u8 = 1;
 const ONE_PART: u8 = 2;
 
 /// The payload of a commit.
-pub fn spell(alloc: Global, commit: &Commit) -> Result<Seq<u8>, AllocError>
+pub fn spell(alloc: Global, commit: &Commit) -> Result<Items<u8>, AllocError>
     requires { IsCommit commit.now }
     ensures { IfOk result (λ payload. payload ≡ commit_spelling commit.now) }
 {
@@ -50,7 +50,7 @@ pub fn frame_of_one(part: u64, rows: u64, id: BlockId) -> [u8; 42]
 }
 
 // The payload of new entries.
-fn spell_add(alloc: Global, part: u64, rows: u64, ids: &[BlockId]) -> Result<Seq<u8>, AllocError>
+fn spell_add(alloc: Global, part: u64, rows: u64, ids: &[BlockId]) -> Result<Items<u8>, AllocError>
     requires { length ids.now < 2 ^ 32 }
     ensures { IfOk result (λ payload. payload ≡ commit_spelling (Add part rows ids.now)) }
 {
@@ -60,7 +60,7 @@ fn spell_add(alloc: Global, part: u64, rows: u64, ids: &[BlockId]) -> Result<Seq
     bytes.extend_from_slice(&rows.to_le_bytes())?;
     bytes.extend_from_slice(&(ids.len() as u32).to_le_bytes())?;
     put_ids(&mut bytes, ids)?;
-    Ok(Seq::of_items(bytes))
+    Ok(Items::from_vec(bytes))
 }
 
 // Puts ids behind bytes.
@@ -89,7 +89,7 @@ fn spell_merge(
     part: u64,
     level: u64,
     rows: u64,
-) -> Result<Seq<u8>, AllocError>
+) -> Result<Items<u8>, AllocError>
     ensures { IfOk result (λ payload. payload ≡ commit_spelling (Merge lo hi part level rows)) }
 {
     let mut bytes = Vec::with_capacity(alloc, 41)?;
@@ -99,5 +99,5 @@ fn spell_merge(
     bytes.extend_from_slice(&part.to_le_bytes())?;
     bytes.extend_from_slice(&level.to_le_bytes())?;
     bytes.extend_from_slice(&rows.to_le_bytes())?;
-    Ok(Seq::of_items(bytes))
+    Ok(Items::from_vec(bytes))
 }

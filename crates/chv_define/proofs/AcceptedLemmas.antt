@@ -1,26 +1,27 @@
 -- What holds of statements that are accepted, of the tables that they define, and of a schema with a statement more.
-use Rattle.std.proofs.Common.{◌≡◌, ℕ, ◌<◌, ◌≤◌, true, List, [], ◌∷◌, ◌++◌, length, Option, None, Ok, refl, sym, ap, subst, ◌∙◌, arith, append_assoc}
+use Rattle.std.proofs.Common.{◌≡◌, ℕ, ◌<◌, ◌≤◌, ◌&&◌, true, not, List, [], ◌∷◌, ◌++◌, length, None, Ok, Result, refl, sym, ap, subst, ◌∙◌, arith, append_assoc}
 use Rattle.std.specs.List.{All, list_all}
 use Rattle.std.proofs.lemmas.Bool.{and_parts, false≢true}
 use Rattle.std.proofs.lemmas.Grind.{flat_map-append}
 use Rattle.std.proofs.lemmas.List.{append-nil, length-append, length-map}
 use Rattle.std.proofs.lemmas.List.Elements.{All-append, All-cons, All-nil}
-use Rattle.chv_ast.specs.Formed.{WellFormed}
+use Rattle.chv_ast.specs.Formed.{FormedTable, WellFormed}
+use Rattle.chv_ast.specs.declared.refusal.Refusal.{Refusal}
 use Rattle.chv_ast.specs.declared.statement.ColumnDef.{ColumnDef}
-use Rattle.chv_ast.specs.declared.statement.EngineWord.{EngineWord}
-use Rattle.chv_ast.specs.declared.statement.EngineWord.TheVariants.{MergeTree, AggregatingMergeTree}
+use Rattle.chv_ast.specs.declared.statement.CreateTable.{CreateTable}
 use Rattle.chv_ast.specs.declared.statement.KindWord.{KindWord}
 use Rattle.chv_ast.specs.declared.statement.KindWord.TheVariants as kind
 use Rattle.chv_ast.specs.declared.statement.Statement.{Statement}
-use Rattle.chv_ast.specs.declared.statement.Statement.TheVariants.{CreateTable, CreateView, Insert, Query, ShowParts, Optimize, FlushQueue}
-use Rattle.chv_catalog.specs.Schemas.{kinds_of, names_of, place_of}
+use Rattle.chv_ast.specs.declared.statement.Statement.TheVariants as statement
+use Rattle.chv_catalog.specs.Schemas.{kinds_of, names_of}
 use Rattle.chv_catalog.specs.declared.table_def.TableDef.{TableDef}
-use Rattle.chv_print.specs.StatementTexts.{statement_text}
+use Rattle.chv_print.specs.StatementTexts.{statement_text, table_text}
+use Rattle.chv_types.specs.Names.{place_of}
 use Rattle.chv_types.specs.Values.{IsPlain}
 use Rattle.chv_types.specs.declared.table.Column.{Column}
-use Rattle.chv_define.specs.Accepted.{Accepted, AreAccepted, Definition, Defines, IsAccepted, Table, is_built_create, is_plain, tables_in, tables_of}
-use Rattle.chv_define.specs.Definitions.{IsPlainWord, defined}
-use Rattle.chv_define.proofs.DefinitionLemmas.{Passed, passed, plain}
+use Rattle.chv_define.specs.Accepted.{Accepted, AreAccepted, Definition, Defines, IsAccepted, Table, is_built_create, is_built_table, is_plain, tables_in, tables_of}
+use Rattle.chv_define.specs.Definitions.{IsPlainWord, defined, is_aggregating}
+use Rattle.chv_define.proofs.DefinitionLemmas.{passed, plain}
 
 plain_word : (word : KindWord) → is_plain word ≡ true → IsPlainWord word
 plain_word (kind.Plain name) is = tt
@@ -32,51 +33,87 @@ plain_words (column ∷ columns) are =
     let both = and_parts (is_plain column.kind) (list_all (λ column. is_plain column.kind) columns) are in
     All-cons (λ (column : ColumnDef). IsPlainWord column.kind) column columns (plain_word column.kind both.0) (plain_words columns both.1)
 
--- what holds of a statement that is built and defines a table: its kinds are plain, and its text is not empty
-record Built (s : Statement) (def : TableDef) : Type 0 where
-  kinds : All IsPlain (kinds_of def)
-  some : 1 ≤ length (statement_text s)
+-- what a statement defines, it defines as a CREATE TABLE
+pub record IsTable (tables : List TableDef) (s : Statement) (def : TableDef) : Type 0 where
+  pub made : CreateTable
+  pub is : s ≡ statement.CreateTable made
+  pub defines : defined tables made ≡ Ok def
 
-some_text : (name : List ℕ) (columns : List ColumnDef) (engine : EngineWord) (key : List (List ℕ)) (window : Option (List ℕ)) → 1 ≤ length (statement_text (CreateTable name columns engine key window))
-unfolding statement_text
-some_text name columns engine key window = omega arith
+pub defines_table : (tables : List TableDef) (s : Statement) (def : TableDef) → Defines tables s (Table def) → IsTable tables s def
+defines_table tables (statement.CreateTable made) def defines = record { made = made; is = refl; defines = defines }
+defines_table tables (statement.CreateView made) def defines = absurd defines
+defines_table tables (statement.Insert brought) def defines = absurd defines
+defines_table tables (statement.Query asked) def defines = absurd defines
+defines_table tables (statement.ShowParts asked) def defines = absurd defines
+defines_table tables (statement.Optimize asked) def defines = absurd defines
+defines_table tables statement.FlushQueue def defines = absurd defines
 
-built_table : (tables : List TableDef) (s : Statement) (def : TableDef) → is_built_create s ≡ true → defined tables s ≡ Ok def → Built s def
-unfolding is_built_create
-built_table tables (CreateTable name columns MergeTree key window) def built defines =
-    record { kinds = plain tables name columns MergeTree key window def defines (plain_words columns built); some = some_text name columns MergeTree key window }
-built_table tables (CreateTable name columns AggregatingMergeTree key window) def built defines = absurd (false≢true built)
-built_table tables (CreateView name target select) def built defines = absurd (false≢true built)
-built_table tables (Insert table columns settings rows) def built defines = absurd (false≢true built)
-built_table tables (Query select) def built defines = absurd (false≢true built)
-built_table tables (ShowParts table) def built defines = absurd (false≢true built)
-built_table tables (Optimize table) def built defines = absurd (false≢true built)
-built_table tables FlushQueue def built defines = absurd (false≢true built)
+-- a statement defines one thing
+pub Defines-unique : (tables : List TableDef) (s : Statement) (a b : Definition) → Defines tables s a → Defines tables s b → a ≡ b
+Defines-unique tables s (Table a) (Table b) one other =
+    let table = defines_table tables s a one in
+    let again : defined tables table.made ≡ Ok b = subst (λ (t : Statement). Defines tables t (Table b)) table.is other in
+    ap Table (same (defined tables table.made) table.defines again)
+  where
+    same : (r : Result TableDef Refusal) → r ≡ Ok a → r ≡ Ok b → a ≡ b
+    same r x y = cc
+
+-- the columns of a table that is built have plain kinds
+built_words : (made : CreateTable) → is_built_table made ≡ true → All (λ (column : ColumnDef). IsPlainWord column.kind) made.columns
+unfolding is_built_table
+built_words made built =
+    plain_words made.columns (and_parts (not (is_aggregating made.engine)) (list_all (λ column. is_plain column.kind) made.columns) built).1
+
+some_text : (made : CreateTable) → 1 ≤ length (statement_text (statement.CreateTable made))
+unfolding statement_text table_text
+some_text made = omega arith
 
 -- the table of a statement that is built and passes the checks beside others
-module _ (tables : List TableDef) (s : Statement) (def : TableDef) (built : is_built_create s ≡ true) (defines : defined tables s ≡ Ok def) where
-  checks : Passed tables s def
-  checks = passed tables s def defines
+pub record IsBuilt (tables : List TableDef) (s : Statement) (def : TableDef) : Type 0 where
+  pub free : place_of def.name (names_of tables) ≡ None
+  pub few : length tables < 256
+  pub short : length (statement_text s) ≤ 1048576
+  pub some : 1 ≤ length (statement_text s)
+  pub plain : All IsPlain (kinds_of def)
+  pub columns : WellFormed s → (1 ≤ length (kinds_of def)) × (length (kinds_of def) ≤ 64)
+
+built_table : (tables : List TableDef) (made : CreateTable) (def : TableDef) → is_built_table made ≡ true → defined tables made ≡ Ok def → IsBuilt tables (statement.CreateTable made) def
+built_table tables made def built defines =
+    let checks = passed tables made def defines in
+    let many = length-map def.columns (λ (column : Column). column.kind) in
+    record {
+      free = checks.free;
+      few = checks.room;
+      short = checks.short;
+      some = some_text made;
+      plain = plain tables made def defines (built_words made built);
+      columns = λ formed. (omega (arith, many, checks.some formed), omega (arith, many, checks.few));
+    }
+
+module _ (tables : List TableDef) (s : Statement) (def : TableDef) (built : is_built_create s ≡ true) (defines : Defines tables s (Table def)) where
+  is_built : IsBuilt tables s def
+  is_built =
+      let table = defines_table tables s def defines in
+      subst (λ (t : Statement). IsBuilt tables t def) (sym table.is)
+      (built_table tables table.made def (sym (ap is_built_create table.is) ∙ built) table.defines)
 
   pub made_free : place_of def.name (names_of tables) ≡ None
-  made_free = checks.free
+  made_free = is_built.free
 
   pub made_few : length tables < 256
-  made_few = checks.room
+  made_few = is_built.few
 
   pub made_short : length (statement_text s) ≤ 1048576
-  made_short = checks.short
+  made_short = is_built.short
 
   pub made_some : 1 ≤ length (statement_text s)
-  made_some = (built_table tables s def built defines).some
+  made_some = is_built.some
 
   pub made_plain : All IsPlain (kinds_of def)
-  made_plain = (built_table tables s def built defines).kinds
+  made_plain = is_built.plain
 
   pub made_columns : WellFormed s → (1 ≤ length (kinds_of def)) × (length (kinds_of def) ≤ 64)
-  made_columns formed =
-      let many = length-map def.columns (λ (column : Column). column.kind) in
-      (omega (arith, many, checks.some formed), omega (arith, many, checks.few))
+  made_columns = is_built.columns
 
 -- what is asked of the columns of each table of a schema
 pub record IsMade (def : TableDef) : Type 0 where

@@ -1,14 +1,14 @@
 -- What a catalog has: accepted CREATE statements, and what they define.
-use Rattle.std.specs.Prelude.{ℕ, ◌≡◌, Bool, true, false, List, [], ◌∷◌, ◌++◌, map, Ok}
+use Rattle.std.specs.Prelude.{ℕ, ◌≡◌, Bool, true, false, not, ◌&&◌, List, [], ◌∷◌, ◌++◌, map, Ok}
 use Rattle.std.specs.List.{flat_map, list_all}
 use Rattle.chv_ast.specs.Formed.{WellFormed}
-use Rattle.chv_ast.specs.declared.statement.EngineWord.TheVariants as engine
+use Rattle.chv_ast.specs.declared.statement.CreateTable.{CreateTable}
 use Rattle.chv_ast.specs.declared.statement.KindWord.{KindWord}
 use Rattle.chv_ast.specs.declared.statement.KindWord.TheVariants as kind
 use Rattle.chv_ast.specs.declared.statement.Statement.{Statement}
 use Rattle.chv_ast.specs.declared.statement.Statement.TheVariants as statement
 use Rattle.chv_catalog.specs.declared.table_def.TableDef.{TableDef}
-use Rattle.chv_define.specs.Definitions.{defined}
+use Rattle.chv_define.specs.Definitions.{defined, is_aggregating}
 use Rattle.chv_print.specs.StatementTexts.{statement_text}
 
 -- what a CREATE statement defines
@@ -33,14 +33,19 @@ abbrev pub is_plain : KindWord → Bool
 is_plain (kind.Plain name) = true
 is_plain (kind.Agg function arg) = false
 
--- a CREATE statement of a table without states and merges of states
-unfoldable pub is_built_create : Statement → Bool
-is_built_create (statement.CreateTable name columns engine.MergeTree key window) = list_all (λ column. is_plain column.kind) columns
+-- a table without states and merges of states
+unfoldable pub is_built_table : CreateTable → Bool
+is_built_table made = not (is_aggregating made.engine) && list_all (λ column. is_plain column.kind) made.columns
+
+-- a CREATE statement that is built
+abbrev pub is_built_create : Statement → Bool
+is_built_create (statement.CreateTable made) = is_built_table made
 is_built_create other = false
 
 -- no check refuses a statement beside these tables, and this is what it defines
 abbrev pub Defines : List TableDef → Statement → Definition → Type 0
-Defines tables create (Table def) = defined tables create ≡ Ok def
+Defines tables (statement.CreateTable made) (Table def) = defined tables made ≡ Ok def
+Defines tables other (Table def) = ⊥
 
 -- a statement is accepted beside the tables that stand
 pub record IsAccepted (tables : List TableDef) (accepted : Accepted) : Type 0 where

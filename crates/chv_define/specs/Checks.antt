@@ -4,12 +4,16 @@ use Rattle.std.specs.List.{list_any}
 use Rattle.chv_ast.specs.declared.refusal.Refusal.{Refusal}
 use Rattle.chv_ast.specs.declared.refusal.Refusal.TheVariants.{UnknownColumn, NameTaken, TypeMismatch, ColumnNotMergeable, LimitPassed}
 use Rattle.chv_ast.specs.declared.statement.ColumnDef.{ColumnDef}
+use Rattle.chv_ast.specs.declared.statement.CreateTable.{CreateTable}
 use Rattle.chv_ast.specs.declared.statement.EngineWord.{EngineWord}
-use Rattle.chv_ast.specs.declared.statement.Statement.{Statement}
-use Rattle.chv_catalog.specs.Schemas.{names_of, place_of}
+use Rattle.chv_ast.specs.declared.statement.Statement.TheVariants as statement
+use Rattle.chv_catalog.specs.Checks.{has_repeat, is_unknown}
+use Rattle.chv_catalog.specs.Schemas.{names_of}
 use Rattle.chv_catalog.specs.declared.table_def.TableDef.{TableDef}
-use Rattle.chv_define.specs.Definitions.{has_loose, has_repeat, has_state, is_aggregating, is_unknown, refuse_if, window_of}
+use Rattle.chv_define.specs.Definitions.{has_loose, has_state, is_aggregating}
 use Rattle.chv_print.specs.StatementTexts.{statement_text}
+use Rattle.chv_types.specs.Names.{place_of}
+use Rattle.chv_types.specs.Steps.{refuse_if}
 use Rattle.chv_types.specs.declared.table.Column.{Column}
 
 -- the names of columns
@@ -32,10 +36,6 @@ checked_key columns made engine key =
     (refuse_if (has_state key made) TypeMismatch
     (refuse_if (is_aggregating engine && has_loose key made) ColumnNotMergeable (Ok tt))))
 
--- how many ids are kept, where it is not too many
-unfoldable pub checked_window : Option (List ℕ) → Result ℕ Refusal
-checked_window window = refuse_if (nat_lt 100000 (window_of window)) LimitPassed (Ok (window_of window))
-
 -- the check of the canonical text
-unfoldable pub checked_text : Statement → Result (Unit {0}) Refusal
-checked_text s = refuse_if (nat_lt 1048576 (length (statement_text s))) LimitPassed (Ok tt)
+unfoldable pub checked_text : CreateTable → Result (Unit {0}) Refusal
+checked_text made = refuse_if (nat_lt 1048576 (length (statement_text (statement.CreateTable made)))) LimitPassed (Ok tt)

@@ -1,24 +1,29 @@
 -- What a CREATE TABLE statement defines: docs/SQL.md, "CREATE TABLE".
-use Rattle.std.specs.Prelude.{ℕ, Bool, true, false, not, ◌&&◌, ◌||◌, nat_lt, ◌+◌, ◌-◌, ◌*◌, fold, List, [], ◌∷◌, length, map, if◌then◌else◌, Option, None, Some, is_some, is_none, Result, Ok, Err}
-use Rattle.std.specs.List.{filter_map, list_any}
+use Rattle.std.specs.Prelude.{ℕ, Bool, true, false, not, ◌&&◌, ◌||◌, nat_lt, List, [], ◌∷◌, length, map, if◌then◌else◌, Option, None, Some, is_some, is_none, Result, Ok, Err}
+use Rattle.std.specs.List.{list_any}
+use Rattle.std.specs.Option.{option_and_then}
 use Rattle.std.specs.Str.{bytes_eq}
 use Rattle.chv_ast.specs.declared.refusal.Refusal.{Refusal}
 use Rattle.chv_ast.specs.declared.refusal.Refusal.TheVariants.{UnknownColumn, NameTaken, UnknownFunction, TypeMismatch, ColumnNotMergeable, LimitPassed}
 use Rattle.chv_ast.specs.declared.statement.ColumnDef.{ColumnDef}
+use Rattle.chv_ast.specs.declared.statement.CreateTable.{CreateTable}
 use Rattle.chv_ast.specs.declared.statement.EngineWord.{EngineWord}
 use Rattle.chv_ast.specs.declared.statement.EngineWord.TheVariants as word
 use Rattle.chv_ast.specs.declared.statement.KindWord.{KindWord}
 use Rattle.chv_ast.specs.declared.statement.KindWord.TheVariants as kind_word
-use Rattle.chv_ast.specs.declared.statement.Statement.{Statement}
 use Rattle.chv_ast.specs.declared.statement.Statement.TheVariants as statement
-use Rattle.chv_catalog.specs.Schemas.{names_of, place_of}
+use Rattle.chv_catalog.specs.Checks.{has_repeat, is_state, is_unknown, number_within, places_of}
+use Rattle.chv_catalog.specs.Schemas.{names_of}
 use Rattle.chv_catalog.specs.declared.table_def.TableDef.{TableDef}
 use Rattle.chv_print.specs.StatementTexts.{statement_text}
-use Rattle.chv_types.specs.Aggregates.{is_agg_name, result_of}
+use Rattle.chv_types.specs.Aggregates.{agg_of, result_of}
 use Rattle.chv_types.specs.Kinds.{scalar_name}
+use Rattle.chv_types.specs.Names.{place_of}
+use Rattle.chv_types.specs.Steps.{and_then, or_refuse, refuse_if}
+use Rattle.chv_types.specs.declared.aggregate.AggForm.{AggForm}
 use Rattle.chv_types.specs.declared.aggregate.AggForm.TheVariants as form
 use Rattle.chv_types.specs.declared.aggregate.AggName.{AggName}
-use Rattle.chv_types.specs.declared.aggregate.AggName.TheVariants.{Count, Sum, Min, Max, UniqExact}
+use Rattle.chv_types.specs.declared.aggregate.AggName.TheVariants.{Count}
 use Rattle.chv_types.specs.declared.kind.Kind.{Kind}
 use Rattle.chv_types.specs.declared.kind.Kind.TheVariants as kind
 use Rattle.chv_types.specs.declared.kind.Scalar.{Scalar}
@@ -26,16 +31,6 @@ use Rattle.chv_types.specs.declared.kind.Scalar.TheVariants as scalar
 use Rattle.chv_types.specs.declared.table.Column.{Column}
 use Rattle.chv_types.specs.declared.table.Engine.{Engine}
 use Rattle.chv_types.specs.declared.table.Engine.TheVariants as engine
-
--- a check that refuses comes before what follows it
-abbrev pub refuse_if : {A : Type 0} → Bool → Refusal → Result A Refusal → Result A Refusal
-refuse_if false refusal rest = rest
-refuse_if true refusal rest = Err refusal
-
--- what follows a step that may be refused
-abbrev pub and_then : {A B : Type 0} → Result A Refusal → (A → Result B Refusal) → Result B Refusal
-and_then (Ok a) rest = rest a
-and_then (Err refusal) rest = Err refusal
 
 -- the kinds of plain values
 abbrev pub scalars : List Scalar
@@ -51,14 +46,14 @@ first_with p (x ∷ xs) = if p x then Some x else first_with p xs
 unfoldable pub scalar_of : List ℕ → Option Scalar
 scalar_of name = first_with (λ kind. bytes_eq name (scalar_name kind)) scalars
 
--- the function with a name that stands for its plain form
-unfoldable pub function_of : List ℕ → Option AggName
-function_of name = first_with (λ agg. is_agg_name agg form.Plain name) (Count ∷ Sum ∷ Min ∷ Max ∷ UniqExact ∷ [])
+-- the function of a plain form
+abbrev pub plain_form : AggName × AggForm → Option AggName
+plain_form (agg, form.Plain) = Some agg
+plain_form (agg, other) = None
 
--- the kind, or the refusal where there is none
-abbrev pub or_refuse : {A : Type 0} → Refusal → Option A → Result A Refusal
-or_refuse refusal None = Err refusal
-or_refuse refusal (Some a) = Ok a
+-- the function with a name that stands for its plain form
+abbrev pub function_of : List ℕ → Option AggName
+function_of name = option_and_then plain_form (agg_of name)
 
 -- the states of a function over values of a kind, which has to fit it
 abbrev pub state_over : AggName → Scalar → Result Kind Refusal
@@ -87,19 +82,6 @@ columns_of [] = Ok []
 columns_of (def ∷ defs) =
     and_then (kind_of def.kind) (λ kind. and_then (columns_of defs) (λ columns. Ok (record { name = def.name; kind = kind } ∷ columns)))
 
--- a name stands twice in a list
-abbrev pub has_repeat : List (List ℕ) → Bool
-has_repeat [] = false
-has_repeat (name ∷ names) = is_some (place_of name names) || has_repeat names
-
--- a name is that of no column
-abbrev pub is_unknown : List (List ℕ) → List ℕ → Bool
-is_unknown columns name = is_none (place_of name columns)
-
-abbrev pub is_state : Kind → Bool
-is_state (kind.Plain plain) = false
-is_state (kind.State agg arg) = true
-
 -- a column of a list of names is a state
 abbrev pub has_state : List (List ℕ) → List Column → Bool
 has_state names [] = false
@@ -118,33 +100,24 @@ abbrev pub engine_of : EngineWord → Engine
 engine_of word.MergeTree = engine.MergeTree
 engine_of word.AggregatingMergeTree = engine.Aggregating
 
--- the number of decimal digits
-abbrev pub number_of : List ℕ → ℕ
-number_of = fold (λ n digit. 10 * n + (digit - 48)) 0
-
--- how many ids are kept, where a number is written
-abbrev pub window_of : Option (List ℕ) → ℕ
-window_of None = 0
-window_of (Some digits) = number_of digits
-
--- the places of the columns with these names
-abbrev pub places_of : List (List ℕ) → List (List ℕ) → List ℕ
-places_of columns names = filter_map (λ name. place_of name columns) names
+-- how many ids are kept, where a number is written: 100,000 at most
+abbrev pub window_of : Option (List ℕ) → Result ℕ Refusal
+window_of None = Ok 0
+window_of (Some digits) = number_within 0 100000 digits
 
 -- the table that a statement defines beside those that stand, or the first check that refuses it
-unfoldable pub defined : List TableDef → Statement → Result TableDef Refusal
-defined tables (statement.CreateTable name columns engine key window) =
-    let names = map (λ column. column.name) columns in
-    refuse_if (is_some (place_of name (names_of tables))) NameTaken
+unfoldable pub defined : List TableDef → CreateTable → Result TableDef Refusal
+defined tables made =
+    let names = map (λ column. column.name) made.columns in
+    refuse_if (is_some (place_of made.name (names_of tables))) NameTaken
     (refuse_if (not (nat_lt (length tables) 256)) LimitPassed
-    (refuse_if (nat_lt 64 (length columns)) LimitPassed
+    (refuse_if (nat_lt 64 (length made.columns)) LimitPassed
     (refuse_if (has_repeat names) NameTaken
-    (and_then (columns_of columns) (λ made.
-    refuse_if (list_any (is_unknown names) key) UnknownColumn
-    (refuse_if (has_repeat key) NameTaken
-    (refuse_if (has_state key made) TypeMismatch
-    (refuse_if (is_aggregating engine && has_loose key made) ColumnNotMergeable
-    (refuse_if (nat_lt 100000 (window_of window)) LimitPassed
-    (refuse_if (nat_lt 1048576 (length (statement_text (statement.CreateTable name columns engine key window)))) LimitPassed
-    (Ok (record { name = name; columns = made; engine = engine_of engine; key = places_of names key; window = window_of window }))))))))))))
-defined tables other = Err LimitPassed
+    (and_then (columns_of made.columns) (λ columns.
+    refuse_if (list_any (is_unknown names) made.key) UnknownColumn
+    (refuse_if (has_repeat made.key) NameTaken
+    (refuse_if (has_state made.key columns) TypeMismatch
+    (refuse_if (is_aggregating made.engine && has_loose made.key columns) ColumnNotMergeable
+    (and_then (window_of made.window) (λ window.
+    refuse_if (nat_lt 1048576 (length (statement_text (statement.CreateTable made)))) LimitPassed
+    (Ok (record { name = made.name; columns = columns; engine = engine_of made.engine; key = places_of names made.key; window = window }))))))))))))

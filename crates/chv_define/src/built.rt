@@ -1,22 +1,18 @@
-// Which CREATE statements are built.
+// Which tables are built.
 ghost use Rattle.std.specs.Prelude.{◌≡◌};
 ghost use Rattle.std.specs.List.{list_all};
-ghost use Rattle.chv_define.specs.Accepted.{is_built_create, is_plain};
+ghost use Rattle.chv_define.specs.Accepted.{is_built_table, is_plain};
 
-use chv_ast::{ColumnDef, EngineWord, KindWord, Statement};
+use chv_ast::{ColumnDef, CreateTable, EngineWord, KindWord};
 
-/// Whether a statement creates a table that is built.
-#[tactic(auto, unfolding(crate::specs::Accepted::is_built_create))]
-pub fn is_built_create(s: &Statement) -> bool
-    ensures { result ≡ is_built_create s.now }
+/// Whether a statement makes a table that is built: without states, and without merges of states.
+#[tactic(auto, unfolding(crate::specs::Accepted::is_built_table))]
+pub fn is_built_table(made: &CreateTable) -> bool
+    ensures { result ≡ is_built_table made.now }
 {
-    match s {
-        Statement::CreateTable {
-            columns,
-            engine: EngineWord::MergeTree,
-            ..
-        } => are_plain(columns.as_slice()),
-        _ => false,
+    match made.engine {
+        EngineWord::MergeTree => are_plain(made.columns.as_slice()),
+        EngineWord::AggregatingMergeTree => false,
     }
 }
 

@@ -1,17 +1,17 @@
 // The checks of a definition, in order.
 ghost use Rattle.std.specs.Prelude.{◌≡◌, ◌≤◌, length, is_some, Ok, Err, OnOk, IfOk, IfErr};
 ghost use Rattle.chv_ast.specs.declared.refusal.Refusal.{Refusal};
-ghost use Rattle.chv_catalog.specs.Schemas.{place_of};
-ghost use Rattle.chv_define.specs.Checks.{checked_key, checked_names, checked_text, checked_window};
+ghost use Rattle.chv_define.specs.Checks.{checked_key, checked_names, checked_text};
 ghost use Rattle.chv_define.specs.Definitions as spec;
+ghost use Rattle.chv_types.specs.Names.{place_of};
+ghost use Rattle.chv_types.specs.Steps.{refuse_if};
 
-use crate::DefineFault;
-use crate::digits::number_up_to;
-use crate::names::{has_repeat, has_unknown, place};
-use chv_ast::{ColumnDefs, Digits, EngineWord, Name, Names, Refusal, Statement};
-use chv_catalog::Schema;
-use chv_print::statement_text;
-use chv_types::{Column, Columns, Kind};
+use chv_ast::{ColumnDefs, CreateTable, Digits, EngineWord, Name, Names, Refusal};
+use chv_catalog::{
+    Schema, StatementFault, has_repeat, has_unknown, is_state, number_within, place,
+};
+use chv_print::table_text;
+use chv_types::{Column, Columns};
 use std::alloc::Global;
 
 /// The most tables and views that stand.
@@ -25,7 +25,7 @@ const MAX_TEXT: usize = 1_048_576;
 
 // A check that refuses where something is bad.
 fn refuse_if(bad: bool, refusal: Refusal) -> Result<(), Refusal>
-    ensures { result ≡ spec.refuse_if bad refusal (Ok tt) }
+    ensures { result ≡ refuse_if bad refusal (Ok tt) }
 {
     if bad { Err(refusal) } else { Ok(()) }
 }
@@ -65,27 +65,23 @@ pub fn check_key(
 
 /// The canonical text is 1,048,576 bytes long at most.
 #[tactic(auto, unfolding(crate::specs::Checks::checked_text))]
-pub fn check_text(alloc: Global, s: &Statement) -> Result<(), DefineFault>
-    ensures short { OnOk result (checked_text s.now ≡ Ok tt) }
-    ensures long { IfErr result (λ fault. (refusal : Refusal) → fault ≡ DefineFault.Refused refusal → checked_text s.now ≡ Err refusal) }
+pub fn check_text(alloc: Global, made: &CreateTable) -> Result<(), StatementFault>
+    ensures short { OnOk result (checked_text made.now ≡ Ok tt) }
+    ensures long { IfErr result (λ fault. (refusal : Refusal) → fault ≡ StatementFault.Refused refusal → checked_text made.now ≡ Err refusal) }
 {
-    let text = statement_text(alloc, s)?;
+    let text = table_text(alloc, made)?;
     if text.len() > MAX_TEXT {
-        return Err(DefineFault::Refused(Refusal::LimitPassed));
+        return Err(StatementFault::Refused(Refusal::LimitPassed));
     }
     Ok(())
 }
 
 /// How many ids are kept, where a number is written: 100,000 at most.
-#[tactic(auto, unfolding(crate::specs::Checks::checked_window))]
 pub fn window_of(window: &Option<Digits>) -> Result<u32, Refusal>
-    ensures { result ≡ checked_window window.now }
+    ensures { result ≡ spec.window_of window.now }
 {
     match window {
-        Some(digits) => match number_up_to(MAX_WINDOW, digits.as_slice()) {
-            Some(window) => Ok(window as u32),
-            None => Err(Refusal::LimitPassed),
-        },
+        Some(digits) => Ok(number_within(0, MAX_WINDOW, digits.as_slice())? as u32),
         None => Ok(0),
     }
 }
@@ -111,14 +107,4 @@ fn is_in(key: &[Name], column: &Column) -> bool
     ensures { result ≡ is_some (place_of column.now.name key.now) }
 {
     place(key, column.name.as_slice()).is_some()
-}
-
-// Whether a kind is one of states.
-fn is_state(kind: Kind) -> bool
-    ensures { result ≡ spec.is_state kind }
-{
-    match kind {
-        Kind::Plain(_) => false,
-        Kind::State(..) => true,
-    }
 }

@@ -3,23 +3,24 @@ ghost use Rattle.std.specs.Prelude.{◌≡◌, IfOk, IfErr};
 ghost use Rattle.chv_ast.specs.declared.refusal.Refusal.{Refusal};
 ghost use Rattle.chv_ast.specs.declared.refusal.Refusal.TheVariants.{TypeMismatch, UnknownFunction};
 ghost use Rattle.chv_define.specs.Definitions as spec;
+ghost use Rattle.chv_types.specs.Steps.{or_refuse};
 
-use crate::DefineFault;
 use chv_ast::{ColumnDefs, KindWord, Name, Refusal};
+use chv_catalog::StatementFault;
 use chv_types::{
     AggForm, AggName, Column, Columns, Kind, Scalar, agg_named, result_kind, scalar_named,
 };
 use std::alloc::Global;
 
 /// The columns that are written, or the first refusal of one.
-pub fn columns_of(alloc: Global, defs: &ColumnDefs) -> Result<Columns, DefineFault>
+pub fn columns_of(alloc: Global, defs: &ColumnDefs) -> Result<Columns, StatementFault>
     ensures columns { IfOk result (λ columns. spec.columns_of defs.now ≡ Ok columns) }
-    ensures refused { IfErr result (λ fault. (refusal : Refusal) → fault ≡ DefineFault.Refused refusal → spec.columns_of defs.now ≡ Err refusal) }
+    ensures refused { IfErr result (λ fault. (refusal : Refusal) → fault ≡ StatementFault.Refused refusal → spec.columns_of defs.now ≡ Err refusal) }
 {
     let mut columns = Columns::new(alloc);
     for def in defs.as_slice() {
         let kind = kind_of(&def.kind)?;
-        let name = def.name.copy()?;
+        let name = Name::from_slice(alloc, def.name.as_slice())?;
         columns.push(Column { name, kind })?;
     }
     Ok(columns)
@@ -38,14 +39,14 @@ fn kind_of(word: &KindWord) -> Result<Kind, Refusal>
 
 // The kind of plain values with a name.
 fn scalar_of(name: &Name) -> Result<Scalar, Refusal>
-    ensures { result ≡ spec.or_refuse TypeMismatch (spec.scalar_of name.now) }
+    ensures { result ≡ or_refuse TypeMismatch (spec.scalar_of name.now) }
 {
     scalar_named(name.as_slice()).ok_or(Refusal::TypeMismatch)
 }
 
 // The function whose plain form has a name.
 fn function_of(name: &Name) -> Result<AggName, Refusal>
-    ensures { result ≡ spec.or_refuse UnknownFunction (spec.function_of name.now) }
+    ensures { result ≡ or_refuse UnknownFunction (spec.function_of name.now) }
 {
     let Some((agg, form)) = agg_named(name.as_slice()) else {
         return Err(Refusal::UnknownFunction);

@@ -4,12 +4,13 @@ use Rattle.std.specs.Prelude.{Result, IsErrOf}
 use Rattle.std.proofs.lemmas.Bool.{cases_eq}
 use Rattle.std.proofs.lemmas.List.{get_or_past, length-append, length-map, map_push}
 use Rattle.chv_ast.specs.declared.refusal.Refusal.{Refusal}
-use Rattle.chv_ast.specs.declared.statement.Statement.{Statement}
+use Rattle.chv_ast.specs.declared.statement.CreateTable.{CreateTable}
+use Rattle.chv_ast.specs.declared.statement.Statement.TheVariants as statement
 use Rattle.chv_catalog.specs.declared.table_def.TableDef.{TableDef}
 use Rattle.chv_commit.specs.Replays.{State, no_state}
 use Rattle.chv_commit.specs.declared.commit.Commit.{Commit}
 use Rattle.chv_define.specs.Accepted.{Accepted, IsAccepted, Table, catalog_payload, tables_of}
-use Rattle.chv_define.specs.Definitions.{and_then, defined}
+use Rattle.chv_define.specs.Definitions.{defined}
 use Rattle.chv_define.proofs.AcceptedLemmas.{AreAccepted-push, tables_of-push}
 use Rattle.chv_part.specs.Books.{Book, TableForm, no_book}
 use Rattle.chv_part.specs.Forms.{form_of}
@@ -29,6 +30,7 @@ use Rattle.chv_table.specs.Tables.{held_state}
 use Rattle.chv_table.specs.declared.fault.PutFault.{PutFault}
 use Rattle.chv_table.specs.declared.fault.PutFault.TheVariants as put
 use Rattle.chv_text.specs.Replies.{ok_line}
+use Rattle.chv_types.specs.Steps.{and_then}
 use Rattle.chv_history.specs.Crashes.{IsLeftBy}
 use Rattle.chv_history.specs.Events.{Created, Event, Moment, Replied, happen}
 use Rattle.chv_history.specs.Histories.{History, IsLawful, Stands, book_of, put_at, with_accepted}
@@ -49,11 +51,11 @@ use Rattle.chv_engine.proofs.DeliverLemmas.{holds_by}
 use Rattle.chv_engine.proofs.DoneLemmas.{Done, TellsNone, done_answers, ended_task}
 
 -- the table that a statement makes, as a history has it
-abbrev pub made : Statement → TableDef → Accepted
-made create def = record { statement = create; definition = Table def }
+abbrev pub made : CreateTable → TableDef → Accepted
+made create def = record { statement = statement.CreateTable create; definition = Table def }
 
 -- what the store's call did
-pub record HasCreated (tells : Type 0) (result : Result (Unit {0}) PutFault) (was is : Store) (create : Statement) (def : TableDef) (old new : Outside) : Type 0 where
+pub record HasCreated (tells : Type 0) (result : Result (Unit {0}) PutFault) (was is : Store) (create : CreateTable) (def : TableDef) (old new : Outside) : Type 0 where
   pub created : tells → (payloads : List (List ℕ)) (books : ℕ → Book) → HoldsBooks was old.files payloads books
       → Turns result (HoldsBooks is new.files (payloads ++ catalog_payload (made create def) ∷ []) (with_book (length was.schema.tables + 1) no_book books)) (StandsFor payloads (forms_of was) books)
       (StandsFor (payloads ++ catalog_payload (made create def) ∷ []) (forms_of was ++ form_of def ∷ []) (with_book (length was.schema.tables + 1) no_book books)) old new
@@ -63,7 +65,7 @@ pub record HasCreated (tells : Type 0) (result : Result (Unit {0}) PutFault) (wa
   pub keeps : ChangesLogs tells (IsErrOf result put.Failed) (length was.schema.tables + 1) old new
 
 -- a table that is not defined is refused
-pub create_refused : (store : Store) (create : Statement) (refuses : Refusal) → defined store.schema.tables create ≡ Err refuses → Asks (create_wish create) store (Err refuses)
+pub create_refused : (store : Store) (create : CreateTable) (refuses : Refusal) → defined store.schema.tables create ≡ Err refuses → Asks (create_wish create) store (Err refuses)
 create_refused store create refuses is entries agree = ap (λ (r : Result TableDef Refusal). and_then r (λ d. Ok (Make (made create d)))) is
 
 -- a definition of a table asks for no rows
@@ -77,8 +79,8 @@ get_or-default [] (suc i) d = refl
 get_or-default (x ∷ xs) zero d = refl
 get_or-default (x ∷ xs) (suc i) d = get_or-default xs i d
 
-module _ (tells : Type 0) (client : ℕ) (result : Result (Unit {0}) PutFault) (was is : Store) (create : Statement) (def : TableDef) (old new : Outside) (usable : IsUsable tells was old)
-    (makes : MakesTable was.schema.tables create def) (call : HasCreated tells result was is create def old new) where
+module _ (tells : Type 0) (client : ℕ) (result : Result (Unit {0}) PutFault) (was is : Store) (create : CreateTable) (def : TableDef) (old new : Outside) (usable : IsUsable tells was old)
+    (makes : MakesTable was.schema.tables (statement.CreateTable create) def) (call : HasCreated tells result was is create def old new) where
   abbrev accepted : Accepted
   accepted = made create def
 

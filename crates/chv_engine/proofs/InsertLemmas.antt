@@ -5,11 +5,10 @@ use Rattle.std.specs.List.{All}
 use Rattle.std.proofs.lemmas.Option.{slice_get_within}
 use Rattle.chv_ast.specs.declared.refusal.Refusal.{Refusal}
 use Rattle.chv_ast.specs.declared.refusal.Refusal.TheVariants.{LimitPassed}
-use Rattle.chv_ast.specs.declared.statement.Statement.{Statement}
+use Rattle.chv_ast.specs.declared.statement.Insert.{Insert}
 use Rattle.chv_catalog.specs.Schemas.{kinds_of}
 use Rattle.chv_catalog.specs.declared.table_def.TableDef.{TableDef}
 use Rattle.chv_commit.specs.Replays.{MAX_ENTRIES}
-use Rattle.chv_define.specs.Definitions.{and_then, refuse_if}
 use Rattle.chv_part.specs.Books.{TableForm}
 use Rattle.chv_plan.specs.Plans.{Delivery, DeliversAll, planned}
 use Rattle.chv_plan.specs.declared.delivery.Delivery.{Delivery as HeldDelivery}
@@ -25,6 +24,7 @@ use Rattle.chv_table.specs.Tables.{IsTableOf}
 use Rattle.chv_table.specs.declared.fault.PutFault.TheVariants as put
 use Rattle.chv_table.specs.declared.table.Table.{Table}
 use Rattle.chv_text.specs.Replies.{insert_line}
+use Rattle.chv_types.specs.Steps.{and_then, refuse_if}
 use Rattle.chv_types.specs.Values.{IsPlain}
 use Rattle.chv_types.specs.declared.kind.Kind.{Kind}
 use Rattle.chv_history.specs.Crashes.{IsLeftBy}
@@ -59,11 +59,11 @@ all_few store within =
     within.tables
 
 -- what is planned is what an insert asks for
-pub insert_asks : (tables : List TableDef) (insert : Statement) (plan : Plan) (entries : ℕ → ℕ) → planned tables insert ≡ Ok plan → plan_wish plan tables entries ≡ insert_wish insert tables entries
+pub insert_asks : (tables : List TableDef) (insert : Insert) (plan : Plan) (entries : ℕ → ℕ) → planned tables insert ≡ Ok plan → plan_wish plan tables entries ≡ insert_wish insert tables entries
 insert_asks tables insert plan entries is = sym (ap (λ (r : Result Plan Refusal). and_then r (λ p. plan_wish p tables entries)) is)
 
 -- what is not planned is refused
-pub insert_refused : (store : Store) (insert : Statement) (refuses : Refusal) → planned store.schema.tables insert ≡ Err refuses → Asks (insert_wish insert) store (Err refuses)
+pub insert_refused : (store : Store) (insert : Insert) (refuses : Refusal) → planned store.schema.tables insert ≡ Err refuses → Asks (insert_wish insert) store (Err refuses)
 insert_refused store insert refuses is entries agree = ap (λ (r : Result Plan Refusal). and_then r (λ p. plan_wish p store.schema.tables entries)) is
 
 -- deliveries ask for no rows

@@ -9,7 +9,8 @@ use Rattle.chv_ast.specs.declared.statement.Statement.TheVariants as statement
 use Rattle.chv_catalog.specs.Schemas.{names_of, place_of}
 use Rattle.chv_catalog.specs.declared.table_def.TableDef.{TableDef}
 use Rattle.chv_define.specs.Accepted.{catalog_payload}
-use Rattle.chv_define.specs.Definitions.{and_then, defined, refuse_if}
+use Rattle.chv_define.specs.Definitions.{defined}
+use Rattle.chv_types.specs.Steps.{and_then, refuse_if}
 use Rattle.chv_history.specs.Built.{is_built}
 use Rattle.chv_history.specs.Crashes.{IsLeftBy}
 use Rattle.chv_history.specs.Events.{Plan, Moment, behind}
@@ -77,15 +78,14 @@ rows_tell tables (Ok found) stands = stands
 rows_tell tables (Err refusal) stands = tt
 
 built_tells : (tables : List TableDef) (entries : ℕ → ℕ) (asked : Statement) → IfOk (built_task tables entries asked) (TellsTable tables)
-built_tells tables entries (statement.CreateTable name columns engine key window) =
-    then_holds (defined tables (statement.CreateTable name columns engine key window)) _ (TellsTable tables) (λ def. tt)
-built_tells tables entries (statement.Insert table columns settings rows) =
-    then_holds (planned tables (statement.Insert table columns settings rows)) _ (TellsTable tables)
+built_tells tables entries (statement.CreateTable made) = then_holds (defined tables made) _ (TellsTable tables) (λ def. tt)
+built_tells tables entries (statement.Insert brought) =
+    then_holds (planned tables brought) _ (TellsTable tables)
     (λ (plan : Plan). unless_refused (not (has_room plan entries)) LimitPassed (Ok (Bring plan)) (TellsTable tables) tt)
-built_tells tables entries (statement.Query query) = rows_tell tables (table_of tables query.table) (found_stands tables query.table)
-built_tells tables entries (statement.ShowParts table) = then_holds (table_of tables table) _ (TellsTable tables) (λ found. tt)
-built_tells tables entries (statement.CreateView name target query) = tt
-built_tells tables entries (statement.Optimize table) = tt
+built_tells tables entries (statement.Query all) = rows_tell tables (table_of tables all.table) (found_stands tables all.table)
+built_tells tables entries (statement.ShowParts parts) = then_holds (table_of tables parts.table) _ (TellsTable tables) (λ found. tt)
+built_tells tables entries (statement.CreateView made) = tt
+built_tells tables entries (statement.Optimize parts) = tt
 built_tells tables entries statement.FlushQueue = tt
 
 task_tells : (tables : List TableDef) (entries : ℕ → ℕ) (asked : Option Statement) → IfOk (task_of tables entries asked) (TellsTable tables)

@@ -5,11 +5,11 @@ use Rattle.std.proofs.lemmas.List.{length-map}
 use Rattle.std.proofs.lemmas.List.Elements.{All-head, All-tail, All-weaker}
 use Rattle.std.proofs.lemmas.Result.{on_ok_weaker}
 use Rattle.chv_ast.specs.declared.refusal.Refusal.{Refusal}
+use Rattle.chv_catalog.specs.Schemas.{kinds_of}
 use Rattle.chv_catalog.specs.declared.table_def.TableDef.{TableDef}
 use Rattle.chv_commit.specs.Replays.{State, span_of}
 use Rattle.chv_commit.specs.declared.part_row.PartRow.{PartRow}
 use Rattle.chv_define.specs.Accepted.{catalog_payload}
-use Rattle.chv_define.specs.Definitions.{and_then}
 use Rattle.chv_merge.specs.NormalForms.{normal_form}
 use Rattle.chv_part.specs.Books.{TableForm, Book, normal_rows, part_rows, rows_in}
 use Rattle.chv_part.specs.Forms.{form_of}
@@ -35,12 +35,13 @@ use Rattle.chv_table.specs.declared.table.Table.{Table}
 use Rattle.chv_table.proofs.RowsLemmas.{part_damage_excludes, part_damage_unique}
 use Rattle.chv_text.specs.Replies.{rows_line}
 use Rattle.chv_text.specs.Rows.{rows_text}
+use Rattle.chv_types.specs.Steps.{and_then}
 use Rattle.chv_types.specs.declared.value.Value.{Value}
 use Rattle.chv_types.specs.declared.value.Value.TheVariants.{Whole}
 use Rattle.chv_history.specs.Events.{Moment, Replied}
 use Rattle.chv_history.specs.Histories.{book_of}
 use Rattle.chv_history.specs.Tasks.{Task, TellParts, TellRows}
-use Rattle.chv_history.specs.Told.{answer_of, part_told, parts_text, shown_text}
+use Rattle.chv_history.specs.Told.{answer_of, part_kinds, part_told, parts_text, shown_text}
 use Rattle.chv_history.proofs.LeftLemmas.{nothing_more}
 use Rattle.chv_history.proofs.LookupLemmas.{IsNamed}
 use Rattle.chv_engine.specs.Answers.{Answers, IsAt, MeetsDamage, Replies, Wish, parts_wish}
@@ -61,7 +62,7 @@ rows_told form book (row ∷ rows) counted =
 
 -- what is told of live parts
 abbrev pub told_text : ℕ → List PartRow → List ℕ
-told_text client rows = rows_text (map row_told rows) ++ rows_line client (length rows)
+told_text client rows = rows_text part_kinds (map row_told rows) ++ rows_line client (length rows)
 
 -- what is held of a table's parts tells its book's
 parts_text-held : (client : ℕ) (table : Table) (files : FileId → FileState) (book : Book) → HoldsBook table files book
@@ -72,7 +73,7 @@ parts_text-held client table files book held =
     let told : map row_told rows ≡ map (part_told form book) book.layout =
     rows_told form book rows (All-weaker (IsPart (λ f. (files f).bytes) table.number form book) (λ (row : PartRow). row.rows ≡ length (part_rows form book row.lo row.hi)) (λ row is. is.counted) rows held.parts)
     ∙ ap (map (part_told form book)) (sym held.describes.layout) in
-    ap₂ (λ (lines : List (List Value)) (count : ℕ). rows_text lines ++ rows_line client count) told (sym (length-map rows span_of) ∙ sym (ap length held.describes.layout))
+    ap₂ (λ (lines : List (List Value)) (count : ℕ). rows_text part_kinds lines ++ rows_line client count) told (sym (length-map rows span_of) ∙ sym (ap length held.describes.layout))
 
 -- so what a store holds of a table's parts tells those of the moment at which it is
 parts_at : (client table : ℕ) (def : TableDef) (store : Store) (outside : Outside) (before : List ℕ) (m : Moment) → IsWithin store → IsTable store table → slice_get store.schema.tables (table - 1) ≡ Some def
@@ -99,9 +100,9 @@ parts_answers tells client name text parts number result store old new usable na
 
 -- the rows of a table in normal form are shown in the order of their values
 shown_text-rows : (client : ℕ) (form : TableForm) (book : Book) (rows : List (List Value)) → rows ≡ normal_rows form (rows_in book)
-    → rows_text (normal_form [] rows) ++ rows_line client (length (normal_form [] rows)) ≡ shown_text client form book
+    → rows_text form.kinds (normal_form [] rows) ++ rows_line client (length (normal_form [] rows)) ≡ shown_text client form book
 unfolding answer_of
-shown_text-rows client form book rows same = ap (λ (l : List (List Value)). rows_text (normal_form [] l) ++ rows_line client (length (normal_form [] l))) same
+shown_text-rows client form book rows same = ap (λ (l : List (List Value)). rows_text form.kinds (normal_form [] l) ++ rows_line client (length (normal_form [] l))) same
 
 -- all rows of a table are asked for
 abbrev pub whole_table : ℕ → TableDef → Wish
@@ -156,7 +157,7 @@ module _ (tells failed : Type 0) (client number : ℕ) (def : TableDef) (store :
   pub rows_answers : (text : List ℕ) (rows : List (List Value)) (result : Result Bool RunFault) (new : Outside) → (failed → ⊥)
       → (tells → (payloads : List (List ℕ)) (books : ℕ → Book) → HoldsBooks store old.files payloads books → rows ≡ normal_rows (form_of def) (rows_in (books number)))
       → (tells → ArePartsWhole number (form_of def) (state_of store number).layout (bytes_in old))
-      → text ≡ rows_text (normal_form [] rows) ++ rows_line client (length (normal_form [] rows)) → Replies tells text false result mid new → Answers tells client (whole_table number def) result store store old new
+      → text ≡ rows_text (kinds_of def) (normal_form [] rows) ++ rows_line client (length (normal_form [] rows)) → Replies tells text false result mid new → Answers tells client (whole_table number def) result store store old new
   rows_answers text rows result new works read whole text_is replies =
       replied_answers tells client (whole_table number def) (Ok (TellRows number def)) text false result store store old new usable (holds_itself store usable.within) (λ entries agree. refl) (λ kept. refl) refl
       (λ tell before m at.

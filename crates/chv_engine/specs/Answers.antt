@@ -2,11 +2,15 @@
 use Rattle.std.specs.Prelude.{ℕ, ◌≡◌, ◌-◌, ◌<◌, ◌≤◌, List, [], ◌∷◌, ◌++◌, length, map, Bool, true, not, Option, ◌||◌, Some, slice_get, Result, Ok, Err, IfOk, OnOk, IsErrOf}
 use Rattle.chv_ast.specs.declared.refusal.Refusal.{Refusal}
 use Rattle.chv_ast.specs.declared.refusal.Refusal.TheVariants.{LimitPassed}
+use Rattle.chv_ast.specs.declared.statement.CreateTable.{CreateTable}
+use Rattle.chv_ast.specs.declared.statement.Insert.{Insert}
 use Rattle.chv_ast.specs.declared.statement.Statement.{Statement}
+use Rattle.chv_ast.specs.declared.statement.Statement.TheVariants as statement
 use Rattle.chv_catalog.specs.declared.table_def.TableDef.{TableDef}
 use Rattle.chv_commit.specs.declared.commit.Commit.{Commit}
 use Rattle.chv_define.specs.Accepted.{Accepted, Table, tables_of, IsSchema, catalog_payload}
-use Rattle.chv_define.specs.Definitions.{and_then, defined, refuse_if}
+use Rattle.chv_define.specs.Definitions.{defined}
+use Rattle.chv_types.specs.Steps.{and_then, refuse_if}
 use Rattle.chv_history.specs.Crashes.{IsLeftBy}
 use Rattle.chv_history.specs.Events.{Event, Plan, Moment, behind}
 use Rattle.chv_history.specs.Histories.{History, book_of, IsLawful}
@@ -124,14 +128,14 @@ abbrev pub parts_wish : List ℕ → Wish
 parts_wish name tables entries = and_then (table_of tables name) (λ found. Ok (TellParts found.0 found.1))
 
 -- a CREATE statement asks for its table
-abbrev pub create_wish : Statement → Wish
-create_wish create tables entries = and_then (defined tables create) (λ def. Ok (Make (record { statement = create; definition = Table def })))
+abbrev pub create_wish : CreateTable → Wish
+create_wish made tables entries = and_then (defined tables made) (λ def. Ok (Make (record { statement = statement.CreateTable made; definition = Table def })))
 
 -- an INSERT asks for deliveries for which there is room
 abbrev pub plan_wish : Plan → Wish
 plan_wish plan tables entries = refuse_if (not (has_room plan entries)) LimitPassed (Ok (Bring plan))
 
-abbrev pub insert_wish : Statement → Wish
+abbrev pub insert_wish : Insert → Wish
 insert_wish insert tables entries = and_then (planned tables insert) (λ plan. plan_wish plan tables entries)
 
 -- a statement, or a text that is none, asks for its task

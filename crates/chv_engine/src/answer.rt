@@ -50,13 +50,11 @@ fn answer_statement<W: Site>(
         return refuse(site, client, Refusal::NotBuilt);
     }
     match statement {
-        Statement::CreateTable { .. } => create(alloc, site, store, client, statement),
-        Statement::Insert { .. } => insert(alloc, site, store, client, statement),
-        Statement::Query { select: query } => {
-            select(alloc, site, store, client, query.table.as_slice())
-        }
-        Statement::ShowParts { table } => {
-            show_parts(alloc, site, store, client, table.as_slice())
+        Statement::CreateTable(made) => create(alloc, site, store, client, made),
+        Statement::Insert(brought) => insert(alloc, site, store, client, brought),
+        Statement::Query(asked) => select(alloc, site, store, client, asked.table.as_slice()),
+        Statement::ShowParts(asked) => {
+            show_parts(alloc, site, store, client, asked.table.as_slice())
         }
         _ => refuse(site, client, Refusal::NotBuilt),
     }

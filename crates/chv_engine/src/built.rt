@@ -3,7 +3,7 @@ ghost use Rattle.std.specs.Prelude.{◌≡◌};
 ghost use Rattle.chv_history.specs.Built.{is_built, is_whole_table};
 
 use chv_ast::{Item, Select, Statement};
-use chv_define::is_built_create;
+use chv_define::is_built_table;
 
 /// Whether a statement is built.
 #[tactic(auto, unfolding(chv_history::specs::Built::is_built))]
@@ -11,10 +11,10 @@ pub fn is_built(statement: &Statement) -> bool
     ensures { result ≡ is_built statement.now }
 {
     match statement {
-        Statement::CreateTable { .. } => is_built_create(statement),
-        Statement::Insert { settings, .. } => !settings.later,
-        Statement::Query { select } => is_whole_table(select),
-        Statement::ShowParts { .. } => true,
+        Statement::CreateTable(made) => is_built_table(made),
+        Statement::Insert(brought) => !brought.settings.later,
+        Statement::Query(asked) => is_whole_table(asked),
+        Statement::ShowParts(_) => true,
         _ => false,
     }
 }

@@ -1,16 +1,16 @@
 // CREATE TABLE.
 ghost use Rattle.std.specs.Prelude.{◌≡◌, true};
-ghost use Rattle.chv_ast.specs.Formed.{WellFormed};
-ghost use Rattle.chv_define.specs.Accepted.{is_built_create};
+ghost use Rattle.chv_ast.specs.Formed.{FormedTable};
+ghost use Rattle.chv_define.specs.Accepted.{is_built_table};
 ghost use Rattle.chv_store.specs.Openings.{MakesTable};
 ghost use Rattle.chv_store.specs.Stores.{IsUsable};
 ghost use Rattle.chv_engine.specs.Answers.{Answers, create_wish};
 
 use crate::fault::RunFault;
 use crate::say::{refuse, reply};
-use chv_ast::Statement;
-use chv_catalog::TableDef;
-use chv_define::{DefineFault, define};
+use chv_ast::{CreateTable, Statement};
+use chv_catalog::{StatementFault, TableDef};
+use chv_define::define;
 use chv_site::Site;
 use chv_store::Store;
 use chv_text::line_ok;
@@ -22,17 +22,17 @@ pub fn create<W: Site>(
     site: &mut W,
     store: &mut Store,
     client: u8,
-    statement: &Statement,
+    made: &CreateTable,
 ) -> Result<bool, RunFault>
     requires usable { IsUsable W.tells store.old (W.outside site.old) }
-    requires formed { WellFormed statement.now }
-    requires built { is_built_create statement.now ≡ true }
-    ensures { Answers W.tells client (create_wish statement.now) result store.old store.new (W.outside site.old) (W.outside site.new) }
+    requires formed { FormedTable made.now }
+    requires built { is_built_table made.now ≡ true }
+    ensures { Answers W.tells client (create_wish made.now) result store.old store.new (W.outside site.old) (W.outside site.new) }
 {
-    match define(alloc, store.schema(), statement) {
-        Ok(def) => make(alloc, site, store, client, statement, def),
-        Err(DefineFault::Refused(refusal)) => refuse(site, client, refusal),
-        Err(DefineFault::NoMemory) => Err(RunFault::NoMemory),
+    match define(alloc, store.schema(), made) {
+        Ok(def) => make(alloc, site, store, client, made, def),
+        Err(StatementFault::Refused(refusal)) => refuse(site, client, refusal),
+        Err(StatementFault::NoMemory) => Err(RunFault::NoMemory),
     }
 }
 
@@ -42,13 +42,13 @@ fn make<W: Site>(
     site: &mut W,
     store: &mut Store,
     client: u8,
-    statement: &Statement,
+    made: &CreateTable,
     def: TableDef,
 ) -> Result<bool, RunFault>
     requires usable { IsUsable W.tells store.old (W.outside site.old) }
-    requires makes { MakesTable store.old.schema.tables statement.now def }
-    ensures { Answers W.tells client (create_wish statement.now) result store.old store.new (W.outside site.old) (W.outside site.new) }
+    requires makes { MakesTable store.old.schema.tables (Statement.CreateTable made.now) def }
+    ensures { Answers W.tells client (create_wish made.now) result store.old store.new (W.outside site.old) (W.outside site.new) }
 {
-    store.create(alloc, site, statement, def)?;
+    store.create(alloc, site, made, def)?;
     reply(site, line_ok(client).as_slice(), false)
 }

@@ -1,7 +1,7 @@
 // INSERT.
 ghost use Rattle.std.specs.Prelude.{◌≡◌, ◌≤◌, ◌+◌, List, ℕ, [], ◌∷◌, length, IfOk, OnOk, IsErr};
 ghost use Rattle.std.specs.List.{All};
-ghost use Rattle.chv_ast.specs.Formed.{WellFormed};
+ghost use Rattle.chv_ast.specs.Formed.{FormedInsert};
 ghost use Rattle.chv_plan.specs.Plans.{Delivery as Planned, Delivers as IsHeldAs, DeliversAll};
 ghost use Rattle.chv_site.specs.Faults.{CountsDisk};
 ghost use Rattle.chv_store.specs.Stores.{HasRoom, IsUsable};
@@ -10,8 +10,9 @@ ghost use Rattle.chv_engine.specs.Deliveries.{Delivers};
 
 use crate::fault::RunFault;
 use crate::say::{refuse, reply};
-use chv_ast::{Refusal, Statement};
-use chv_plan::{Delivery, PlanFault, plan_insert};
+use chv_ast::{Insert, Refusal};
+use chv_catalog::StatementFault;
+use chv_plan::{Delivery, plan_insert};
 use chv_site::{Failed, Site};
 use chv_store::Store;
 use chv_table::Delivered;
@@ -24,16 +25,16 @@ pub fn insert<W: Site>(
     site: &mut W,
     store: &mut Store,
     client: u8,
-    statement: &Statement,
+    brought: &Insert,
 ) -> Result<bool, RunFault>
     requires usable { IsUsable W.tells store.old (W.outside site.old) }
-    requires formed { WellFormed statement.now }
-    ensures { Answers W.tells client (insert_wish statement.now) result store.old store.new (W.outside site.old) (W.outside site.new) }
+    requires formed { FormedInsert brought.now }
+    ensures { Answers W.tells client (insert_wish brought.now) result store.old store.new (W.outside site.old) (W.outside site.new) }
 {
-    match plan_insert(alloc, store.schema(), statement) {
+    match plan_insert(alloc, store.schema(), brought) {
         Ok(plan) => bring(site, store, client, plan.deliveries.as_slice()),
-        Err(PlanFault::Refused(refusal)) => refuse(site, client, refusal),
-        Err(PlanFault::NoMemory) => Err(RunFault::NoMemory),
+        Err(StatementFault::Refused(refusal)) => refuse(site, client, refusal),
+        Err(StatementFault::NoMemory) => Err(RunFault::NoMemory),
     }
 }
 

@@ -5,13 +5,12 @@ ghost use Rattle.chv_site.specs.MemSite.{files_of};
 ghost use Rattle.chv_part.specs.Books.{AreColumns};
 ghost use Rattle.chv_table.specs.Tables.{IsPlaced, IsWithin};
 
-use chv_ast::Seq;
 use chv_catalog::TableDef;
 use chv_commit::MAX_ENTRIES;
 use chv_sip::{BlockId, body_hash};
 use chv_site::{FileId, MemSite, Site};
 use chv_table::{Delivered, Table, begin_table};
-use chv_types::{Column, Columns, Engine, Kind, Places, Scalar};
+use chv_types::{Bytes, Column, Columns, Engine, Kind, Places, Scalar};
 use std::alloc::{AllocError, Global};
 
 /// The file of the part with the one row 1. Its hash is at 16, its body at 24, and the number at 37.
@@ -39,7 +38,7 @@ pub fn numbers(alloc: Global, window: u32) -> Result<TableDef, AllocError>
     ensures { IfOk result (λ def. AreColumns (kinds_of def)) }
 {
     let column = Column {
-        name: Seq::new(alloc),
+        name: Bytes::new(alloc),
         kind: Kind::Plain(Scalar::UInt64),
     };
     let mut columns = Columns::new(alloc);
@@ -47,7 +46,7 @@ pub fn numbers(alloc: Global, window: u32) -> Result<TableDef, AllocError>
     columns.push(column)?;
     let _ = key.push(0);
     Ok(TableDef {
-        name: Seq::new(alloc),
+        name: Bytes::new(alloc),
         columns,
         engine: Engine::MergeTree,
         key,

@@ -53,17 +53,17 @@ fn each_kind(alloc: Global) -> Result<Kinds, AllocError>
         Kind::Plain(Scalar::Bool),
         Kind::Plain(Scalar::Text),
     ];
-    Ok(Kinds::of_items(kinds.to_vec(alloc)?))
+    Ok(Kinds::from_slice(alloc, &kinds)?)
 }
 
-// So many columns of a kind, one or two.
-fn columns(alloc: Global, scalar: Scalar, count: usize) -> Result<Kinds, AllocError>
+/// So many columns of a kind, one or two.
+pub fn columns(alloc: Global, scalar: Scalar, count: usize) -> Result<Kinds, AllocError>
     requires some { 1 ≤ count }
     requires most { count ≤ 2 }
     ensures { IfOk result AreColumns }
 {
     let kinds = [Kind::Plain(scalar); 2];
-    Ok(Kinds::of_items(kinds[..count].to_vec(alloc)?))
+    Ok(Kinds::from_slice(alloc, &kinds[..count])?)
 }
 
 // The file that has this body, of 104 bytes at most.
@@ -86,9 +86,9 @@ fn read(alloc: Global, kinds: &Kinds, file: &[u8]) -> Result<Block, PartFault>
     read_part(alloc, &mut site, PART, kinds)
 }
 
-/// Whether rows have this text.
-pub fn has_text(alloc: Global, rows: &Block, text: &[u8]) -> bool {
-    match rows_text(alloc, rows) {
+/// Whether rows of these kinds have this text.
+pub fn has_text(alloc: Global, kinds: &Kinds, rows: &Block, text: &[u8]) -> bool {
+    match rows_text(alloc, kinds, rows) {
         Ok(told) => told.as_slice() == text,
         Err(_) => false,
     }
@@ -109,7 +109,7 @@ fn is_kept(alloc: Global, kinds: &Kinds, file: &[u8], text: &[u8]) -> bool
     requires { AreColumns kinds.now }
 {
     match read(alloc, kinds, file) {
-        Ok(rows) => has_text(alloc, &rows, text) && is_encoded(alloc, kinds, &rows, file),
+        Ok(rows) => has_text(alloc, kinds, &rows, text) && is_encoded(alloc, kinds, &rows, file),
         Err(_) => false,
     }
 }

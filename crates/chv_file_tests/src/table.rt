@@ -4,10 +4,11 @@ ghost use Rattle.chv_table.specs.Tables.{IsWithin};
 
 use crate::making::{ONE_ROW_HASH, are_delivered, begun, put_at};
 use crate::opening::opened;
-use crate::part::has_text;
+use crate::part::{columns, has_text};
 use chv_part::Damage;
 use chv_site::{Fails, FileId, MemSite};
 use chv_table::{Table, TableFault};
+use chv_types::{Block, Scalar};
 use std::alloc::Global;
 
 // A window, five deliveries, what becomes of each, and what becomes of the same behind them, once the table is opened again.
@@ -64,11 +65,19 @@ fn an_id_counts_as_long_as_it_is_in_the_window(rt: HostRuntime) {
     }
 }
 
+// Whether rows of one column of numbers have this text.
+fn are_shown(alloc: Global, rows: &Block, text: &[u8]) -> bool {
+    match columns(alloc, Scalar::UInt64, 1) {
+        Ok(kinds) => has_text(alloc, &kinds, rows, text),
+        Err(_) => false,
+    }
+}
+
 fn has_rows(alloc: Global, site: &mut MemSite, table: &Table, text: &[u8]) -> bool
     requires { IsWithin table.now }
 {
     match table.rows(alloc, site) {
-        Ok(rows) => has_text(alloc, &rows, text),
+        Ok(rows) => are_shown(alloc, &rows, text),
         Err(_) => false,
     }
 }

@@ -232,8 +232,8 @@ planned_known plans plan P holds same = subst (λ (r : Result Plan Refusal). IfO
 
 pub known_task : (asked : Option Statement) (history : History) → IfOk (task_of (tables_of history.schema) (entries_in history) asked) (TaskKnown history)
 known_task asked history =
-    task_holds (tables_of history.schema) (entries_in history) (TaskKnown history) (λ table def. tt) (λ table def. tt) asked (λ s def is built defines. tt)
-    (λ s plan is brings room. planned_known (planned (tables_of history.schema) s) plan (All (IsKnown history)) (planned-within (tables_of history.schema) s) brings)
+    task_holds (tables_of history.schema) (entries_in history) (TaskKnown history) (λ table def. tt) (λ table def. tt) asked (λ made is def built defines. tt)
+    (λ brought is plan brings room. planned_known (planned (tables_of history.schema) brought) plan (All (IsKnown history)) (planned-within (tables_of history.schema) brought) brings)
 
 -- while requests are answered the history holds what is acknowledged
 pub holding_run : (requests : List Request) (m : Moment) → Holding m → While Held [] (run_events requests m) m

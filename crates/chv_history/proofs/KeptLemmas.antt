@@ -11,10 +11,10 @@ use Rattle.chv_ast.specs.declared.statement.Statement.TheVariants as statement
 use Rattle.chv_catalog.specs.declared.table_def.TableDef.{TableDef}
 use Rattle.chv_commit.specs.Replays.{MAX_ENTRIES, State, added, no_state}
 use Rattle.chv_define.specs.Accepted.{Accepted, tables_in, tables_of}
-use Rattle.chv_define.specs.Definitions.{and_then, refuse_if}
 use Rattle.chv_define.proofs.AcceptedLemmas.{tables_of-push}
 use Rattle.chv_plan.specs.Arrivals.{Arrival}
 use Rattle.chv_plan.specs.Plans.{Delivery, planned}
+use Rattle.chv_types.specs.Steps.{and_then, refuse_if}
 use Rattle.chv_sip.specs.BlockIds.{id_eq, last_ids}
 use Rattle.chv_sip.specs.declared.block_id.BlockId.{BlockId}
 use Rattle.chv_sip.proofs.LastIds.{last_ids-last_ids}
@@ -178,13 +178,12 @@ bring_agrees tables one two (Ok plan) agree known = ap (λ (b : Bool). refuse_if
 bring_agrees tables one two (Err refuses) agree known = refl
 
 built_agrees : (tables : List TableDef) (one two : ℕ → ℕ) (asked : Statement) → Agree tables one two → built_task tables one asked ≡ built_task tables two asked
-built_agrees tables one two (statement.CreateTable name columns engine key window) agree = refl
-built_agrees tables one two (statement.Insert table columns settings rows) agree =
-    bring_agrees tables one two (planned tables (statement.Insert table columns settings rows)) agree (planned-within tables (statement.Insert table columns settings rows))
-built_agrees tables one two (statement.Query query) agree = refl
-built_agrees tables one two (statement.ShowParts table) agree = refl
-built_agrees tables one two (statement.CreateView name target query) agree = refl
-built_agrees tables one two (statement.Optimize table) agree = refl
+built_agrees tables one two (statement.CreateTable made) agree = refl
+built_agrees tables one two (statement.Insert brought) agree = bring_agrees tables one two (planned tables brought) agree (planned-within tables brought)
+built_agrees tables one two (statement.Query asked) agree = refl
+built_agrees tables one two (statement.ShowParts asked) agree = refl
+built_agrees tables one two (statement.CreateView asked) agree = refl
+built_agrees tables one two (statement.Optimize asked) agree = refl
 built_agrees tables one two statement.FlushQueue agree = refl
 
 -- so the task of a statement is the same

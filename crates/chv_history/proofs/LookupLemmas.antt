@@ -3,18 +3,17 @@ use Rattle.std.proofs.Common.{◌≡◌, ℕ, zero, suc, ◌+◌, ◌-◌, ◌<�
 use Rattle.std.specs.Prelude.{Result, nat_lt}
 use Rattle.std.specs.List.{All, list_any}
 use Rattle.std.proofs.lemmas.List.Elements.{All-cons, All-nil, All-weaker}
-use Rattle.chv_ast.specs.declared.expr.Literal.{Literal}
 use Rattle.chv_ast.specs.declared.refusal.Refusal.{Refusal}
 use Rattle.chv_ast.specs.declared.refusal.Refusal.TheVariants.{UnknownTable, UnknownColumn, NameTaken, TypeMismatch, LimitPassed}
-use Rattle.chv_ast.specs.declared.statement.Settings.{Settings}
-use Rattle.chv_ast.specs.declared.statement.Statement.{Statement}
-use Rattle.chv_ast.specs.declared.statement.Statement.TheVariants as statement
-use Rattle.chv_catalog.specs.Schemas.{names_of, place_of, columns_of, kinds_of}
+use Rattle.chv_ast.specs.declared.statement.Insert.{Insert}
+use Rattle.chv_catalog.specs.Checks.{has_repeat, is_unknown, is_state, places_of}
+use Rattle.chv_catalog.specs.Schemas.{names_of, columns_of, kinds_of}
 use Rattle.chv_catalog.specs.declared.table_def.TableDef.{TableDef}
 use Rattle.chv_catalog.proofs.SchemaLemmas.{place_of-within, length-names_of}
-use Rattle.chv_define.specs.Definitions.{refuse_if, and_then, has_repeat, is_unknown, is_state, places_of}
 use Rattle.chv_part.specs.Books.{MAX_ROWS}
 use Rattle.chv_plan.specs.Plans.{Delivery, deliveries_of, filled_names, is_long, kinds_at, planned, planned_for, rows_for, sizes_for, table_of}
+use Rattle.chv_types.specs.Names.{place_of}
+use Rattle.chv_types.specs.Steps.{refuse_if, and_then}
 use Rattle.chv_types.specs.declared.value.Value.{Value}
 
 -- the table of a name, by its number
@@ -87,12 +86,13 @@ deliveries_of-table table def token number (block ∷ blocks) =
     All-cons (λ (d : Delivery). d.table ≡ table) _ (deliveries_of table def token (number + 1) blocks) refl (deliveries_of-table table def token (number + 1) blocks)
 
 -- so is what an insert into a table brings
-planned_for-table : (table : ℕ) (def : TableDef) (listed : Option (List (List ℕ))) (settings : Settings) (rows : List (List Literal)) → IfOk (planned_for table def listed settings rows) (λ plan. All (λ (d : Delivery). d.table ≡ table) plan)
-planned_for-table table def listed settings rows =
-    let names = filled_names (columns_of def) listed in
+planned_for-table : (table : ℕ) (def : TableDef) (brought : Insert) → IfOk (planned_for table def brought) (λ plan. All (λ (d : Delivery). d.table ≡ table) plan)
+planned_for-table table def brought =
+    let settings = brought.settings in
+    let names = filled_names (columns_of def) brought.columns in
     let places = places_of (columns_of def) names in
-    checked-plan (list_any (is_unknown (columns_of def)) names) (has_repeat names) (list_any is_state (kinds_at (kinds_of def) places)) (is_long settings.token) (nat_lt MAX_ROWS (length rows)) (sizes_for settings)
-    (rows_for (kinds_of def) places rows) (λ sizes written. deliveries_of table def settings.token 0 _) (λ plan. All (λ (d : Delivery). d.table ≡ table) plan)
+    checked-plan (list_any (is_unknown (columns_of def)) names) (has_repeat names) (list_any is_state (kinds_at (kinds_of def) places)) (is_long settings.token) (nat_lt MAX_ROWS (length brought.rows)) (sizes_for settings)
+    (rows_for (kinds_of def) places brought.rows) (λ sizes written. deliveries_of table def settings.token 0 _) (λ plan. All (λ (d : Delivery). d.table ≡ table) plan)
     (λ sizes written. deliveries_of-table table def settings.token 0 _)
 
 -- the number of a table that is found is one of the tables
@@ -104,22 +104,16 @@ table_of-within tables name = by (place_of name (names_of tables)) refl
     by (Some place) found = let named = named_at tables name place found in rw named.is (named.first, named.last)
 
 -- each delivery that is planned has a table
-pub planned-within : (tables : List TableDef) (asked : Statement) → IfOk (planned tables asked) (λ plan. All (λ (d : Delivery). (1 ≤ d.table) × (d.table ≤ length tables)) plan)
+pub planned-within : (tables : List TableDef) (brought : Insert) → IfOk (planned tables brought) (λ plan. All (λ (d : Delivery). (1 ≤ d.table) × (d.table ≤ length tables)) plan)
 unfolding planned
-planned-within tables (statement.Insert table columns settings rows) =
-    if_ok-and_then (table_of tables table) _ (λ found. (1 ≤ found.0) × (found.0 ≤ length tables)) (λ (plan : List Delivery). All (λ (d : Delivery). (1 ≤ d.table) × (d.table ≤ length tables)) plan) (table_of-within tables table)
-    (λ found known. weaker (planned_for found.0 found.1 columns settings rows) found.0 known (planned_for-table found.0 found.1 columns settings rows))
+planned-within tables brought =
+    if_ok-and_then (table_of tables brought.table) _ (λ found. (1 ≤ found.0) × (found.0 ≤ length tables)) (λ (plan : List Delivery). All (λ (d : Delivery). (1 ≤ d.table) × (d.table ≤ length tables)) plan) (table_of-within tables brought.table)
+    (λ found known. weaker (planned_for found.0 found.1 brought) found.0 known (planned_for-table found.0 found.1 brought))
   where
     weaker : (r : Result (List Delivery) Refusal) (number : ℕ) → (1 ≤ number) × (number ≤ length tables) → IfOk r (λ plan. All (λ (d : Delivery). d.table ≡ number) plan)
         → IfOk r (λ plan. All (λ (d : Delivery). (1 ≤ d.table) × (d.table ≤ length tables)) plan)
     weaker (Ok plan) number known same = All-weaker (λ (d : Delivery). d.table ≡ number) (λ (d : Delivery). (1 ≤ d.table) × (d.table ≤ length tables)) (λ d is. (omega (arith, known.0, is), omega (arith, known.1, is))) plan same
     weaker (Err refusal) number known same = tt
-planned-within tables (statement.CreateTable name columns engine key window) = tt
-planned-within tables (statement.CreateView name target query) = tt
-planned-within tables (statement.Query query) = tt
-planned-within tables (statement.ShowParts table) = tt
-planned-within tables (statement.Optimize table) = tt
-planned-within tables statement.FlushQueue = tt
 
 -- one table is found
 pub one_found : (p q : ℕ × TableDef) → ◌≡◌ {A = Result (ℕ × TableDef) Refusal} (Ok p) (Ok q) → p ≡ q

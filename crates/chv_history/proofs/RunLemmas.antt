@@ -4,7 +4,8 @@ use Rattle.std.specs.List.{filter, list_all}
 use Rattle.std.proofs.lemmas.Bool.{and_parts, cases_eq, eq-eqb, ltb-false, ne_eqb, not-true}
 use Rattle.std.proofs.lemmas.List.Elements.{All-cons, All-head, All-nil, All-tail, All-weaker}
 use Rattle.chv_ast.specs.declared.refusal.Refusal.{Refusal}
-use Rattle.chv_ast.specs.declared.statement.Statement.{Statement}
+use Rattle.chv_ast.specs.declared.statement.Insert.{Insert}
+use Rattle.chv_ast.specs.declared.statement.Statement.TheVariants as statement
 use Rattle.chv_catalog.specs.Schemas.{kinds_of}
 use Rattle.chv_catalog.specs.declared.table_def.TableDef.{TableDef}
 use Rattle.chv_commit.specs.Replays.{MAX_ENTRIES}
@@ -115,7 +116,7 @@ plain_tables history lawful =
     All-weaker IsMade (λ (def : TableDef). All IsPlain (kinds_of def)) (λ def made. made.plain) (tables_of history.schema) (all_made [] history.schema lawful.schema)
 
 -- a plan is one that the history's tables may have
-pub may_bring : (asked : Statement) (plan : Plan) (history : History) → IsLawful history → planned (tables_of history.schema) asked ≡ Ok plan → has_room plan (entries_in history) ≡ true → MayBring history plan
+pub may_bring : (asked : Insert) (plan : Plan) (history : History) → IsLawful history → planned (tables_of history.schema) asked ≡ Ok plan → has_room plan (entries_in history) ≡ true → MayBring history plan
 may_bring asked plan history lawful brings room =
     record { arrive = planned-arrives (tables_of history.schema) asked plan (plain_tables history lawful) brings; fit = all_fit plan history room }
 
@@ -129,8 +130,8 @@ TaskSound history (TellParts table def) = Unit {0}
 pub sound_task : (request : Request) (history : History) → IsLawful history → IsFormed request → IfOk (task_of (tables_of history.schema) (entries_in history) request.statement) (TaskSound history)
 sound_task request history lawful formed =
     task_holds (tables_of history.schema) (entries_in history) (TaskSound history) (λ table def. tt) (λ table def. tt) request.statement
-    (λ s def is built defines. (built, record { formed = formed s is; defines = defines }))
-    (λ s plan is brings room. may_bring s plan history lawful brings room)
+    (λ made is def built defines. (built, record { formed = formed (statement.CreateTable made) is; defines = defines }))
+    (λ brought is plan brings room. may_bring brought plan history lawful brings room)
 
 lawful_task : (client : ℕ) (task : Task) (done : List Event) (m : Moment) → TaskSound m.history task → IsLawful m.history → While Lawful done (task_events client task m.history) m
 lawful_task client (Make accepted) done m sound lawful =

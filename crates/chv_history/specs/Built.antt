@@ -5,7 +5,7 @@ use Rattle.chv_ast.specs.declared.statement.Item.TheVariants as shown
 use Rattle.chv_ast.specs.declared.statement.Select.{Select}
 use Rattle.chv_ast.specs.declared.statement.Statement.{Statement}
 use Rattle.chv_ast.specs.declared.statement.Statement.TheVariants as statement
-use Rattle.chv_define.specs.Accepted.{is_built_create}
+use Rattle.chv_define.specs.Accepted.{is_built_table}
 
 -- a list has no item
 abbrev pub is_empty : {A : Type 0} → List A → Bool
@@ -26,10 +26,8 @@ is_whole_table query =
 
 -- a table without states and merges of states; rows that are not held for later; all rows of a table; and its parts
 unfoldable pub is_built : Statement → Bool
-is_built (statement.CreateTable name columns engine key window) = is_built_create (statement.CreateTable name columns engine key window)
-is_built (statement.CreateView name target query) = false
-is_built (statement.Insert table columns settings rows) = not settings.later
-is_built (statement.Query query) = is_whole_table query
-is_built (statement.ShowParts table) = true
-is_built (statement.Optimize table) = false
-is_built statement.FlushQueue = false
+is_built (statement.CreateTable made) = is_built_table made
+is_built (statement.Insert brought) = not brought.settings.later
+is_built (statement.Query asked) = is_whole_table asked
+is_built (statement.ShowParts asked) = true
+is_built other = false

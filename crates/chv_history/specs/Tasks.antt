@@ -8,8 +8,9 @@ use Rattle.chv_ast.specs.declared.statement.Statement.TheVariants as statement
 use Rattle.chv_catalog.specs.declared.table_def.TableDef.{TableDef}
 use Rattle.chv_commit.specs.Replays.{MAX_ENTRIES}
 use Rattle.chv_define.specs.Accepted.{Accepted, Table}
-use Rattle.chv_define.specs.Definitions.{and_then, defined, refuse_if}
+use Rattle.chv_define.specs.Definitions.{defined}
 use Rattle.chv_plan.specs.Plans.{Delivery, planned, table_of}
+use Rattle.chv_types.specs.Steps.{and_then, refuse_if}
 use Rattle.chv_history.specs.Built.{is_built}
 use Rattle.chv_history.specs.Events.{Plan}
 
@@ -32,17 +33,13 @@ has_room plan entries =
 
 -- the task of a statement that is built, beside tables that have so many entries
 abbrev pub built_task : List TableDef → (ℕ → ℕ) → Statement → Result Task Refusal
-built_task tables entries (statement.CreateTable name columns engine key window) =
-    let create = statement.CreateTable name columns engine key window in
-    and_then (defined tables create) (λ def. Ok (Make (record { statement = create; definition = Table def })))
-built_task tables entries (statement.Insert table columns settings rows) =
-    and_then (planned tables (statement.Insert table columns settings rows)) (λ plan.
-    refuse_if (not (has_room plan entries)) LimitPassed (Ok (Bring plan)))
-built_task tables entries (statement.Query query) = and_then (table_of tables query.table) (λ found. Ok (TellRows found.0 found.1))
-built_task tables entries (statement.ShowParts table) = and_then (table_of tables table) (λ found. Ok (TellParts found.0 found.1))
-built_task tables entries (statement.CreateView name target query) = Err NotBuilt
-built_task tables entries (statement.Optimize table) = Err NotBuilt
-built_task tables entries statement.FlushQueue = Err NotBuilt
+built_task tables entries (statement.CreateTable made) =
+    and_then (defined tables made) (λ def. Ok (Make (record { statement = statement.CreateTable made; definition = Table def })))
+built_task tables entries (statement.Insert brought) =
+    and_then (planned tables brought) (λ plan. refuse_if (not (has_room plan entries)) LimitPassed (Ok (Bring plan)))
+built_task tables entries (statement.Query asked) = and_then (table_of tables asked.table) (λ found. Ok (TellRows found.0 found.1))
+built_task tables entries (statement.ShowParts asked) = and_then (table_of tables asked.table) (λ found. Ok (TellParts found.0 found.1))
+built_task tables entries other = Err NotBuilt
 
 -- the task of a statement
 abbrev pub statement_task : List TableDef → (ℕ → ℕ) → Statement → Result Task Refusal

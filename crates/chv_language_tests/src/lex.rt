@@ -1,4 +1,4 @@
-use chv_ast::{Seq, TokenKind};
+use chv_ast::TokenKind;
 use chv_lex::{LexFault, Piece, Token, cut_script, tokens};
 use std::alloc::{AllocError, Global};
 

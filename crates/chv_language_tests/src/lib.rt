@@ -4,8 +4,6 @@
 #[cfg(test)]
 mod lex;
 #[cfg(test)]
-mod lists;
-#[cfg(test)]
 mod refusals;
 #[cfg(test)]
 mod statements;

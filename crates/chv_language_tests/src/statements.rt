@@ -148,7 +148,7 @@ fn begins_with(alloc: Global, select: &Select, expected: &[u8]) -> bool {
 fn shows(alloc: Global, text: &[u8], expected: &[u8]) -> bool {
     match tokens(alloc, text) {
         Ok(tokens) => match statement(alloc, text, &tokens) {
-            Ok(Statement::Query { select }) => begins_with(alloc, &select, expected),
+            Ok(Statement::Query(select)) => begins_with(alloc, &select, expected),
             _ => false,
         },
         Err(_) => false,

@@ -7,7 +7,7 @@ use crate::Piece;
 use crate::blank::comment_length;
 use crate::piece::piece_of;
 use crate::text::text_length;
-use chv_ast::Seq;
+use sqlite_items::Items;
 use std::alloc::{AllocError, Global};
 
 /// How many bytes stand up to the next backquote and with it, or up to the end.
@@ -55,7 +55,7 @@ fn piece_length(text: &[u8]) -> usize
 }
 
 /// Puts a piece behind the others, where there is one.
-fn add(pieces: &mut Seq<Piece>, piece: Option<Piece>) -> Result<(), AllocError>
+fn add(pieces: &mut Items<Piece>, piece: Option<Piece>) -> Result<(), AllocError>
     ensures added { OnOk result (pieces.new ≡ pieces.old ++ option_to_list piece) }
 {
     match piece {
@@ -65,11 +65,11 @@ fn add(pieces: &mut Seq<Piece>, piece: Option<Piece>) -> Result<(), AllocError>
 }
 
 /// The pieces of a script in order. A piece that holds only white space, comments and a tag is passed over.
-pub fn cut_script(alloc: Global, text: &[u8]) -> Result<Seq<Piece>, AllocError>
+pub fn cut_script(alloc: Global, text: &[u8]) -> Result<Items<Piece>, AllocError>
     ensures cut { IfOk result (λ pieces. pieces ≡ spec.pieces_of text.now) }
     ensures within { IfOk result (λ pieces. All (spec.IsPieceOf text.now) pieces) }
 {
-    let mut pieces = Seq::new(alloc);
+    let mut pieces = Items::new(alloc);
     let mut start = 0;
     while start <= text.len() {
         let (_, rest) = text.split_at(start);

@@ -4,7 +4,8 @@ ghost use Rattle.chv_lex.specs.Tokens as spec;
 
 use crate::blank::blank_length;
 use crate::spelling::token_length;
-use chv_ast::{Seq, TokenKind};
+use chv_ast::TokenKind;
+use sqlite_items::Items;
 use std::alloc::{AllocError, Global};
 
 /// A token of a piece, from a place up to another one, which does not count.
@@ -35,7 +36,7 @@ impl From<AllocError> for LexFault {
 
 /// Takes the white space, the comment or the token at the front of a text, which begins at this place of its piece, and
 /// answers how many bytes it has. An `Err` leaves the tokens as they were.
-fn take_front(tokens: &mut Seq<Token>, at: usize, text: &[u8]) -> Result<usize, LexFault>
+fn take_front(tokens: &mut Items<Token>, at: usize, text: &[u8]) -> Result<usize, LexFault>
     requires some { 0 < length text.now }
     requires room { at + length text.now < 2 ^ 63 }
     ensures front { IfOk result (λ n. spec.Takes at text.now n tokens.old tokens.new) }
@@ -60,14 +61,14 @@ fn take_front(tokens: &mut Seq<Token>, at: usize, text: &[u8]) -> Result<usize, 
 }
 
 /// The tokens of a piece in order.
-pub fn tokens(alloc: Global, piece: &[u8]) -> Result<Seq<Token>, LexFault>
+pub fn tokens(alloc: Global, piece: &[u8]) -> Result<Items<Token>, LexFault>
     ensures found { IfOk result (λ found. spec.Cut 0 piece.now found) }
     ensures only { (listed : List Token) → spec.Cut 0 piece.now listed → spec.GivesTokens listed result }
     ensures bad { IfErr result (λ fault. spec.IsFaultOf piece.now fault) }
     ensures stuck { (at : ℕ) → spec.Stuck 0 piece.now at → spec.GivesBadToken at result }
     ensures within { IfOk result (λ found. spec.AreSpaced 0 (length piece.now) found) }
 {
-    let mut tokens = Seq::new(alloc);
+    let mut tokens = Items::new(alloc);
     let mut at = 0;
     while at < piece.len() {
         let (_, text) = piece.split_at(at);

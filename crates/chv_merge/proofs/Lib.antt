@@ -1,2 +1,1 @@
 pub mod NormalFormLemmas
-pub mod SortingLemmas

@@ -3,19 +3,15 @@ use Rattle.std.proofs.Common.{◌≡◌, ℕ, suc, ◌≤◌, nat_lt, Bool, true
 use Rattle.std.proofs.lemmas.List.MinMax.{ranks_by}
 use Rattle.std.proofs.lemmas.List.Sorted.{IsPermutation-sym, All-permutation, length_permutation}
 use Rattle.std.specs.Cmp.{IsTotalOrder, IsStrictWeakOrder, then_total, on_total}
-use Rattle.std.specs.Cmp.Lexicographic.{lists_total}
-use Rattle.std.specs.FinMap.{slice_cmp-IsAntisymmetric}
 use Rattle.std.specs.List.{All}
 use Rattle.std.specs.List.Sorted.{IsPermutation, IsSortedBy}
 use Rattle.std.specs.Ordering.{is_lt, ordering_then, ordering_reverse, bool_cmp}
 use Rattle.std.specs.declared.cmp.Ordering.{Ordering}
-use Rattle.chv_types.specs.OrderLaws.{value_cmp_total, value_cmp-IsAntisymmetric}
+use Rattle.chv_types.specs.Order.{row_cmp}
+use Rattle.chv_types.specs.OrderLaws.{row_cmp_total, row_cmp-IsAntisymmetric}
 use Rattle.chv_types.specs.declared.value.Value.{Value}
-use Rattle.chv_merge.specs.NormalForms.{values_at, row_cmp, key_cmp, key_below, normal_form}
-use Rattle.chv_merge.proofs.SortingLemmas.{sorted_by-IsPermutation, sorted_by-IsSortedBy, sorted_by-unique, sorted_by-permuted, sorted_by-append}
-
-row_cmp_total : IsTotalOrder row_cmp
-row_cmp_total = lists_total value_cmp_total
+use Rattle.chv_types.proofs.SortingLemmas.{sorted_by-IsPermutation, sorted_by-IsSortedBy, sorted_by-unique, sorted_by-permuted, sorted_by-append}
+use Rattle.chv_merge.specs.NormalForms.{values_at, key_cmp, key_below, normal_form}
 
 pub key_cmp_total : (key : List ℕ) → IsTotalOrder (key_cmp key)
 unfolding key_cmp
@@ -33,7 +29,7 @@ second_equal Greater second e = cc
 key_cmp-Equal : (key : List ℕ) (a b : List Value) → key_cmp key a b ≡ Equal → a ≡ b
 unfolding key_cmp
 key_cmp-Equal key a b e =
-    slice_cmp-IsAntisymmetric value_cmp-IsAntisymmetric a b (second_equal (row_cmp (values_at key a) (values_at key b)) _ e)
+    row_cmp-IsAntisymmetric a b (second_equal (row_cmp (values_at key a) (values_at key b)) _ e)
 
 -- rows of which neither is below the other are the same
 pub key_below-apart : (key : List ℕ) (a b : List Value) → key_below key a b ≡ false → key_below key b a ≡ false → a ≡ b

@@ -1,2 +1,1 @@
 pub mod NormalForms
-pub mod Sorting

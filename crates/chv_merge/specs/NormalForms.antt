@@ -1,20 +1,15 @@
 -- Rows as a table keeps them: docs/SQL.md, "Normal form".
 use Rattle.std.specs.Prelude.{ℕ, Bool, List, slice_get}
-use Rattle.std.specs.Cmp.Lexicographic.{slice_cmp}
 use Rattle.std.specs.List.{filter_map}
 use Rattle.std.specs.Ordering.{is_lt, on, then_cmp}
 use Rattle.std.specs.declared.cmp.Ordering.{Ordering}
-use Rattle.chv_types.specs.Order.{value_cmp}
+use Rattle.chv_types.specs.Order.{row_cmp}
+use Rattle.chv_types.specs.Sorting.{sorted_by}
 use Rattle.chv_types.specs.declared.value.Value.{Value}
-use Rattle.chv_merge.specs.Sorting.{sorted_by}
 
 -- the values of a row at places, in their order
 abbrev pub values_at : List ℕ → List Value → List Value
 values_at places row = filter_map (slice_get row) places
-
--- rows are ordered column by column
-abbrev pub row_cmp : List Value → List Value → Ordering
-row_cmp = slice_cmp value_cmp
 
 -- rows are ordered by the columns of a key, in its order, and then by all columns
 unfoldable pub key_cmp : List ℕ → List Value → List Value → Ordering

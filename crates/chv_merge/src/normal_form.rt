@@ -1,6 +1,7 @@
 // Normal forms.
 ghost use Rattle.std.specs.Prelude.{◌≡◌, IfOk, length, nat_lt};
-ghost use Rattle.chv_merge.specs.NormalForms.{key_cmp, normal_form, row_cmp, values_at};
+ghost use Rattle.chv_types.specs.Order.{row_cmp};
+ghost use Rattle.chv_merge.specs.NormalForms.{key_cmp, normal_form, values_at};
 
 use chv_types::{Block, Places, Row, compare};
 use std::alloc::AllocError;
@@ -12,9 +13,9 @@ use std::cmp::Ordering;
 pub fn normal(key: &Places, block: Block) -> Result<Block, AllocError>
     ensures { IfOk result (λ rows. rows ≡ normal_form key.now block) }
 {
-    let mut rows = block.into_items();
+    let mut rows = block.into_vec();
     rows.sort_by(|a, b| order(key, a, b))?;
-    Ok(Block::of_items(rows))
+    Ok(Block::from_vec(rows))
 }
 
 // The order of two rows.

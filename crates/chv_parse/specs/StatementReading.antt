@@ -6,15 +6,20 @@ use Rattle.chv_ast.specs.declared.expr.Expr.{Expr}
 use Rattle.chv_ast.specs.declared.expr.Literal.{Literal}
 use Rattle.chv_ast.specs.declared.expr.Literal.TheVariants as literal
 use Rattle.chv_ast.specs.declared.statement.ColumnDef.{ColumnDef}
+use Rattle.chv_ast.specs.declared.statement.CreateTable.{CreateTable}
+use Rattle.chv_ast.specs.declared.statement.CreateView.{CreateView}
 use Rattle.chv_ast.specs.declared.statement.EngineWord.{EngineWord}
 use Rattle.chv_ast.specs.declared.statement.EngineWord.TheVariants as engine
+use Rattle.chv_ast.specs.declared.statement.Insert.{Insert}
 use Rattle.chv_ast.specs.declared.statement.Item.{Item}
 use Rattle.chv_ast.specs.declared.statement.Item.TheVariants as shown
 use Rattle.chv_ast.specs.declared.statement.KindWord.{KindWord}
 use Rattle.chv_ast.specs.declared.statement.KindWord.TheVariants as kind
+use Rattle.chv_ast.specs.declared.statement.Optimize.{Optimize}
 use Rattle.chv_ast.specs.declared.statement.Order.{Order}
 use Rattle.chv_ast.specs.declared.statement.Select.{Select}
 use Rattle.chv_ast.specs.declared.statement.Settings.{Settings}
+use Rattle.chv_ast.specs.declared.statement.ShowParts.{ShowParts}
 use Rattle.chv_ast.specs.declared.statement.Statement.{Statement}
 use Rattle.chv_ast.specs.declared.statement.Statement.TheVariants as statement
 use Rattle.chv_parse.specs.ExprReading.{sign_next, read_sign, keyword_next, read_keyword, read_expr, read_literal}
@@ -166,7 +171,7 @@ unfoldable pub read_window : Reader (Option (List ℕ))
 read_window = optional_at (keyword_next (codes "SETTINGS")) read_window_setting
 
 -- CREATE TABLE name (columns) ENGINE [=] engine [()] ORDER BY key [SETTINGS ..]
-unfoldable pub read_create_table : Reader Statement
+unfoldable pub read_create_table : Reader CreateTable
 read_create_table = do
   read_keyword (codes "CREATE")
   read_keyword (codes "TABLE")
@@ -180,7 +185,7 @@ read_create_table = do
   read_keyword (codes "BY")
   sorted ← read_key
   window ← read_window
-  given (statement.CreateTable called columns engine sorted window)
+  given (record { name = called; columns = columns; engine = engine; key = sorted; window = window })
 
 -- the alias of an item, if it is written
 unfoldable pub read_alias : Reader (Option (List ℕ))
@@ -249,7 +254,7 @@ unfoldable pub read_plain_select : Reader Select
 read_plain_select = read_select >>= λ query tokens. if is_plain query then Some (query, tokens) else None
 
 -- CREATE MATERIALIZED VIEW name TO name AS select
-unfoldable pub read_create_view : Reader Statement
+unfoldable pub read_create_view : Reader CreateView
 read_create_view = do
   read_keyword (codes "CREATE")
   read_keyword (codes "MATERIALIZED")
@@ -259,7 +264,7 @@ read_create_view = do
   target ← read_name
   read_keyword (codes "AS")
   query ← read_plain_select
-  given (statement.CreateView called target query)
+  given (record { name = called; target = target; select = query })
 
 -- the one digit 0 or 1
 unfoldable pub read_switch : Reader Bool
@@ -355,7 +360,7 @@ unfoldable pub read_columns : Reader (Option (List (List ℕ)))
 read_columns = optional_at (sign_next (codes "(")) read_names
 
 -- INSERT INTO [TABLE] name [(names)] [SETTINGS ..] VALUES row [, row]*
-unfoldable pub read_insert : Reader Statement
+unfoldable pub read_insert : Reader Insert
 read_insert = do
   read_keyword (codes "INSERT")
   read_keyword (codes "INTO")
@@ -365,55 +370,57 @@ read_insert = do
   set ← read_settings
   read_keyword (codes "VALUES")
   rows ← read_listed read_row
-  given (statement.Insert table columns set rows)
-
--- a select by itself
-unfoldable pub read_query : Reader Statement
-read_query = read_select >>= λ asked. given (statement.Query asked)
+  given (record { table = table; columns = columns; settings = set; rows = rows })
 
 -- SHOW PARTS name
-unfoldable pub read_show_parts : Reader Statement
+unfoldable pub read_show_parts : Reader ShowParts
 read_show_parts = do
   read_keyword (codes "SHOW")
   read_keyword (codes "PARTS")
   table ← read_name
-  given (statement.ShowParts table)
+  given (record { table = table })
 
 -- OPTIMIZE TABLE name FINAL
-unfoldable pub read_optimize : Reader Statement
+unfoldable pub read_optimize : Reader Optimize
 read_optimize = do
   read_keyword (codes "OPTIMIZE")
   read_keyword (codes "TABLE")
   table ← read_name
   read_keyword (codes "FINAL")
-  given (statement.Optimize table)
+  given (record { table = table })
 
 -- SYSTEM FLUSH ASYNC INSERT QUEUE
-unfoldable pub read_flush_queue : Reader Statement
+unfoldable pub read_flush_queue : Reader (Unit {0})
 read_flush_queue = do
   read_keyword (codes "SYSTEM")
   read_keyword (codes "FLUSH")
   read_keyword (codes "ASYNC")
   read_keyword (codes "INSERT")
   read_keyword (codes "QUEUE")
-  given statement.FlushQueue
+
+-- a statement, by what is read
+abbrev pub as_statement : {A : Type 0} → (A → Statement) → Reader A → Reader Statement
+as_statement form r = r >>= λ read. given (form read)
 
 -- a statement that makes a table or a view
 unfoldable pub read_create : Reader Statement
-read_create = either_at (λ tokens. keyword_next (codes "TABLE") (drop 1 tokens)) read_create_table read_create_view
+read_create =
+    either_at (λ tokens. keyword_next (codes "TABLE") (drop 1 tokens)) (as_statement statement.CreateTable read_create_table)
+    (as_statement statement.CreateView read_create_view)
 
 -- a statement that begins with none of CREATE, INSERT and SELECT
 unfoldable pub read_upkeep : Reader Statement
 read_upkeep =
-    either_at (keyword_next (codes "SHOW")) read_show_parts
-    (either_at (keyword_next (codes "OPTIMIZE")) read_optimize read_flush_queue)
+    either_at (keyword_next (codes "SHOW")) (as_statement statement.ShowParts read_show_parts)
+    (either_at (keyword_next (codes "OPTIMIZE")) (as_statement statement.Optimize read_optimize)
+    (as_statement (λ _. statement.FlushQueue) read_flush_queue))
 
 -- a statement, by its first word
 unfoldable pub read_statement : Reader Statement
 read_statement =
     either_at (keyword_next (codes "CREATE")) read_create
-    (either_at (keyword_next (codes "INSERT")) read_insert
-    (either_at (keyword_next (codes "SELECT")) read_query read_upkeep))
+    (either_at (keyword_next (codes "INSERT")) (as_statement statement.Insert read_insert)
+    (either_at (keyword_next (codes "SELECT")) (as_statement statement.Query read_select) read_upkeep))
 
 -- all tokens are read as the value, or none are; nothing is said where memory runs out
 abbrev pub ReadsAll : {A : Type 0} → Reader A → List Lexeme → Result A ParseFault → Type 0

@@ -5,7 +5,10 @@ ghost use Rattle.chv_parse.specs.StatementReading.{read_state_arg, read_aggregat
 use crate::cursor::Cursor;
 use crate::listed::{self, Member};
 use crate::{ParseFault, select};
-use chv_ast::{ColumnDef, ColumnDefs, Digits, EngineWord, KindWord, Name, Names, Seq, Statement};
+use chv_ast::{
+    ColumnDef, ColumnDefs, CreateTable, CreateView, Digits, EngineWord, KindWord, Name, Names,
+};
+use sqlite_items::Items;
 use std::alloc::Global;
 
 // Reads the second argument of an aggregate's state, if it is written.
@@ -126,7 +129,7 @@ fn empty_key(cursor: &mut Cursor, alloc: Global) -> Result<Names, ParseFault>
     cursor.word(b"tuple")?;
     cursor.sign(b"(")?;
     cursor.sign(b")")?;
-    Ok(Seq::new(alloc))
+    Ok(Items::new(alloc))
 }
 
 // Reads the key of one name.
@@ -134,7 +137,7 @@ fn empty_key(cursor: &mut Cursor, alloc: Global) -> Result<Names, ParseFault>
 fn single_key(cursor: &mut Cursor, alloc: Global) -> Result<Names, ParseFault>
     ensures { Reads read_single_key cursor.old result cursor.new }
 {
-    let mut key = Seq::new(alloc);
+    let mut key = Items::new(alloc);
     key.push(cursor.name(alloc)?)?;
     Ok(key)
 }
@@ -170,7 +173,7 @@ fn window(cursor: &mut Cursor, alloc: Global) -> Result<Option<Digits>, ParseFau
 
 /// Reads a statement that makes a table.
 #[tactic(auto, unfolding(crate::specs::StatementReading::read_create_table))]
-pub fn create_table(cursor: &mut Cursor, alloc: Global) -> Result<Statement, ParseFault>
+pub fn create_table(cursor: &mut Cursor, alloc: Global) -> Result<CreateTable, ParseFault>
     ensures { Reads read_create_table cursor.old result cursor.new }
 {
     cursor.keyword(b"CREATE")?;
@@ -185,7 +188,7 @@ pub fn create_table(cursor: &mut Cursor, alloc: Global) -> Result<Statement, Par
     cursor.keyword(b"BY")?;
     let key = key(cursor, alloc)?;
     let window = window(cursor, alloc)?;
-    Ok(Statement::CreateTable {
+    Ok(CreateTable {
         name,
         columns,
         engine,
@@ -196,7 +199,7 @@ pub fn create_table(cursor: &mut Cursor, alloc: Global) -> Result<Statement, Par
 
 /// Reads a statement that makes a view.
 #[tactic(auto, unfolding(crate::specs::StatementReading::read_create_view))]
-pub fn create_view(cursor: &mut Cursor, alloc: Global) -> Result<Statement, ParseFault>
+pub fn create_view(cursor: &mut Cursor, alloc: Global) -> Result<CreateView, ParseFault>
     ensures { Reads read_create_view cursor.old result cursor.new }
 {
     cursor.keyword(b"CREATE")?;
@@ -207,7 +210,7 @@ pub fn create_view(cursor: &mut Cursor, alloc: Global) -> Result<Statement, Pars
     let target = cursor.name(alloc)?;
     cursor.keyword(b"AS")?;
     let select = select::plain_select(cursor, alloc)?;
-    Ok(Statement::CreateView {
+    Ok(CreateView {
         name,
         target,
         select,

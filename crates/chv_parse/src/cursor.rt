@@ -6,8 +6,9 @@ ghost use Rattle.chv_lex.specs.Lexemes.{lexemes};
 ghost use Rattle.chv_parse.specs.Reading.{Reads, marked, meant, next_is, is_name};
 
 use crate::{ParseFault, token_text};
-use chv_ast::{Digits, Name, Quoted, Seq, TokenKind};
+use chv_ast::{Digits, Name, Quoted, TokenKind};
 use chv_lex::Token;
+use sqlite_items::Items;
 use std::alloc::Global;
 use std::marker::Model;
 
@@ -188,7 +189,7 @@ impl<'a> Cursor<'a> {
         match self.tokens.first() {
             Some(token) => match token_text::name_of(self.piece, *token) {
                 Some(bytes) => {
-                    let read = Seq::of_items(Vec::from_slice(alloc, bytes)?);
+                    let read = Items::from_slice(alloc, bytes)?;
                     self.pass();
                     Ok(read)
                 }
@@ -206,7 +207,7 @@ impl<'a> Cursor<'a> {
         match self.tokens.first() {
             Some(token) => match token_text::digits_of(self.piece, *token) {
                 Some(bytes) => {
-                    let read = Seq::of_items(Vec::from_slice(alloc, bytes)?);
+                    let read = Items::from_slice(alloc, bytes)?;
                     self.pass();
                     Ok(read)
                 }

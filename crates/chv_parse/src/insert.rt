@@ -6,7 +6,7 @@ use crate::ParseFault;
 use crate::cursor::Cursor;
 use crate::listed::{self, Member};
 use crate::settings::settings;
-use chv_ast::{Literal, Names, Seq, Statement};
+use chv_ast::{Insert, Literal, LiteralRow, Names};
 use std::alloc::Global;
 
 // Reads a literal of a row.
@@ -37,7 +37,7 @@ impl Member for Literal {
 
 // Reads the literals of a row, in parentheses.
 #[tactic(auto, unfolding(crate::specs::StatementReading::read_row))]
-fn row(cursor: &mut Cursor, alloc: Global) -> Result<Seq<Literal>, ParseFault>
+fn row(cursor: &mut Cursor, alloc: Global) -> Result<LiteralRow, ParseFault>
     ensures { Reads read_row cursor.old result cursor.new }
 {
     cursor.sign(b"(")?;
@@ -46,12 +46,12 @@ fn row(cursor: &mut Cursor, alloc: Global) -> Result<Seq<Literal>, ParseFault>
     Ok(row)
 }
 
-impl Member for Seq<Literal> {
+impl Member for LiteralRow {
     ghost use Rattle.chv_parse.specs.StatementReading.{read_row};
 
     ghost reader = { read_row };
 
-    fn read(cursor: &mut Cursor, alloc: Global) -> Result<Seq<Literal>, ParseFault> {
+    fn read(cursor: &mut Cursor, alloc: Global) -> Result<LiteralRow, ParseFault> {
         row(cursor, alloc)
     }
 }
@@ -83,7 +83,7 @@ fn columns(cursor: &mut Cursor, alloc: Global) -> Result<Option<Names>, ParseFau
 
 /// Reads an insert.
 #[tactic(auto, unfolding(crate::specs::StatementReading::read_insert))]
-pub fn insert(cursor: &mut Cursor, alloc: Global) -> Result<Statement, ParseFault>
+pub fn insert(cursor: &mut Cursor, alloc: Global) -> Result<Insert, ParseFault>
     ensures { Reads read_insert cursor.old result cursor.new }
 {
     cursor.keyword(b"INSERT")?;
@@ -93,8 +93,8 @@ pub fn insert(cursor: &mut Cursor, alloc: Global) -> Result<Statement, ParseFaul
     let columns = columns(cursor, alloc)?;
     let set = settings(cursor, alloc)?;
     cursor.keyword(b"VALUES")?;
-    let rows = listed::listed::<Seq<Literal>>(cursor, alloc)?;
-    Ok(Statement::Insert {
+    let rows = listed::listed::<LiteralRow>(cursor, alloc)?;
+    Ok(Insert {
         table,
         columns,
         settings: set,

@@ -5,7 +5,8 @@ ghost use Rattle.chv_parse.specs.StatementReading.{read_behind_some, read_listed
 
 use crate::ParseFault;
 use crate::cursor::Cursor;
-use chv_ast::{Expr, Name, Names, Seq};
+use chv_ast::{Expr, Name, Names};
+use sqlite_items::Items;
 use std::alloc::Global;
 
 /// What stands in lists with commas.
@@ -39,11 +40,11 @@ impl Member for Expr {
 
 /// Reads values, with a comma between two of them.
 #[tactic(auto, unfolding(crate::specs::StatementReading::read_listed))]
-pub fn listed<T: Member>(cursor: &mut Cursor, alloc: Global) -> Result<Seq<T>, ParseFault>
+pub fn listed<T: Member>(cursor: &mut Cursor, alloc: Global) -> Result<Items<T>, ParseFault>
     ensures { Reads (read_listed T.reader) cursor.old result cursor.new }
 {
     let count = cursor.count();
-    let mut values = Seq::new(alloc);
+    let mut values = Items::new(alloc);
     let value = T::read(cursor, alloc)?;
     values.push(value)?;
     behind(cursor, alloc, values, count)
@@ -53,9 +54,9 @@ pub fn listed<T: Member>(cursor: &mut Cursor, alloc: Global) -> Result<Seq<T>, P
 fn behind<T: Member>(
     cursor: &mut Cursor,
     alloc: Global,
-    front: Seq<T>,
+    front: Items<T>,
     count: usize,
-) -> Result<Seq<T>, ParseFault>
+) -> Result<Items<T>, ParseFault>
     ensures { Reads (read_behind_some front T.reader count) cursor.old result cursor.new }
 {
     let mut values = front;
@@ -87,7 +88,7 @@ pub fn list_by<T: Member>(
     cursor: &mut Cursor,
     alloc: Global,
     first: &[u8],
-) -> Result<Seq<T>, ParseFault>
+) -> Result<Items<T>, ParseFault>
     ensures { Reads (read_list_by first.now T.reader) cursor.old result cursor.new }
 {
     if cursor.next_is_keyword(first) {
@@ -95,6 +96,6 @@ pub fn list_by<T: Member>(
         cursor.keyword(b"BY")?;
         listed::<T>(cursor, alloc)
     } else {
-        Ok(Seq::new(alloc))
+        Ok(Items::new(alloc))
     }
 }

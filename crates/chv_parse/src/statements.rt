@@ -4,52 +4,45 @@ ghost use Rattle.chv_ast.specs.Lexemes.{Lexeme};
 ghost use Rattle.chv_ast.specs.GrammarStatements.{IsStatement};
 ghost use Rattle.chv_lex.specs.Lexemes.{lexemes};
 ghost use Rattle.chv_parse.specs.Reading.{Reads};
-ghost use Rattle.chv_parse.specs.StatementReading.{read_query, read_show_parts, read_optimize, read_flush_queue, read_create, read_upkeep, read_statement, ReadsAll, Gives};
+ghost use Rattle.chv_parse.specs.StatementReading.{read_show_parts, read_optimize, read_flush_queue, read_create, read_upkeep, read_statement, ReadsAll, Gives};
 ghost use Rattle.chv_parse.specs.declared.fault.ParseFault.TheVariants as fault;
 
+use crate::ParseFault;
 use crate::create::{create_table, create_view};
 use crate::cursor::Cursor;
 use crate::insert::insert;
-use crate::{ParseFault, select};
-use chv_ast::{Seq, Statement};
+use crate::select::select;
+use chv_ast::{Optimize, ShowParts, Statement};
 use chv_lex::Token;
+use sqlite_items::Items;
 use std::alloc::Global;
-
-// Reads a query by itself.
-#[tactic(auto, unfolding(crate::specs::StatementReading::read_query))]
-fn query(cursor: &mut Cursor, alloc: Global) -> Result<Statement, ParseFault>
-    ensures { Reads read_query cursor.old result cursor.new }
-{
-    let select = select::select(cursor, alloc)?;
-    Ok(Statement::Query { select })
-}
 
 // Reads a look at the parts of a table.
 #[tactic(auto, unfolding(crate::specs::StatementReading::read_show_parts))]
-fn show_parts(cursor: &mut Cursor, alloc: Global) -> Result<Statement, ParseFault>
+fn show_parts(cursor: &mut Cursor, alloc: Global) -> Result<ShowParts, ParseFault>
     ensures { Reads read_show_parts cursor.old result cursor.new }
 {
     cursor.keyword(b"SHOW")?;
     cursor.keyword(b"PARTS")?;
     let table = cursor.name(alloc)?;
-    Ok(Statement::ShowParts { table })
+    Ok(ShowParts { table })
 }
 
 // Reads a wish for a merge.
 #[tactic(auto, unfolding(crate::specs::StatementReading::read_optimize))]
-fn optimize(cursor: &mut Cursor, alloc: Global) -> Result<Statement, ParseFault>
+fn optimize(cursor: &mut Cursor, alloc: Global) -> Result<Optimize, ParseFault>
     ensures { Reads read_optimize cursor.old result cursor.new }
 {
     cursor.keyword(b"OPTIMIZE")?;
     cursor.keyword(b"TABLE")?;
     let table = cursor.name(alloc)?;
     cursor.keyword(b"FINAL")?;
-    Ok(Statement::Optimize { table })
+    Ok(Optimize { table })
 }
 
 // Reads a wish that held inserts be written.
 #[tactic(auto, unfolding(crate::specs::StatementReading::read_flush_queue))]
-fn flush_queue(cursor: &mut Cursor) -> Result<Statement, ParseFault>
+fn flush_queue(cursor: &mut Cursor) -> Result<(), ParseFault>
     ensures { Reads read_flush_queue cursor.old result cursor.new }
 {
     cursor.keyword(b"SYSTEM")?;
@@ -57,7 +50,7 @@ fn flush_queue(cursor: &mut Cursor) -> Result<Statement, ParseFault>
     cursor.keyword(b"ASYNC")?;
     cursor.keyword(b"INSERT")?;
     cursor.keyword(b"QUEUE")?;
-    Ok(Statement::FlushQueue)
+    Ok(())
 }
 
 // Reads a statement that makes a table or a view.
@@ -66,9 +59,9 @@ fn create(cursor: &mut Cursor, alloc: Global) -> Result<Statement, ParseFault>
     ensures { Reads read_create cursor.old result cursor.new }
 {
     if cursor.second_is_keyword(b"TABLE") {
-        create_table(cursor, alloc)
+        Ok(Statement::CreateTable(create_table(cursor, alloc)?))
     } else {
-        create_view(cursor, alloc)
+        Ok(Statement::CreateView(create_view(cursor, alloc)?))
     }
 }
 
@@ -78,11 +71,12 @@ fn upkeep(cursor: &mut Cursor, alloc: Global) -> Result<Statement, ParseFault>
     ensures { Reads read_upkeep cursor.old result cursor.new }
 {
     if cursor.next_is_keyword(b"SHOW") {
-        show_parts(cursor, alloc)
+        Ok(Statement::ShowParts(show_parts(cursor, alloc)?))
     } else if cursor.next_is_keyword(b"OPTIMIZE") {
-        optimize(cursor, alloc)
+        Ok(Statement::Optimize(optimize(cursor, alloc)?))
     } else {
-        flush_queue(cursor)
+        flush_queue(cursor)?;
+        Ok(Statement::FlushQueue)
     }
 }
 
@@ -94,9 +88,9 @@ fn any_statement(cursor: &mut Cursor, alloc: Global) -> Result<Statement, ParseF
     if cursor.next_is_keyword(b"CREATE") {
         create(cursor, alloc)
     } else if cursor.next_is_keyword(b"INSERT") {
-        insert(cursor, alloc)
+        Ok(Statement::Insert(insert(cursor, alloc)?))
     } else if cursor.next_is_keyword(b"SELECT") {
-        query(cursor, alloc)
+        Ok(Statement::Query(select(cursor, alloc)?))
     } else {
         upkeep(cursor, alloc)
     }
@@ -116,7 +110,11 @@ fn whole_statement(alloc: Global, piece: &[u8], tokens: &[Token]) -> Result<Stat
 }
 
 /// Reads the one statement that the tokens of a piece write.
-pub fn statement(alloc: Global, piece: &[u8], tokens: &Seq<Token>) -> Result<Statement, ParseFault>
+pub fn statement(
+    alloc: Global,
+    piece: &[u8],
+    tokens: &Items<Token>,
+) -> Result<Statement, ParseFault>
     // What is read is what the tokens write.
     ensures found { IfOk result (λ read. IsStatement read (lexemes piece.now tokens.now)) }
     // Where it is refused, the tokens write no statement.

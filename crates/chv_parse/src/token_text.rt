@@ -7,8 +7,9 @@ ghost use Rattle.std.specs.Str.{str_eq_ignore_ascii_case};
 ghost use Rattle.chv_ast.specs.GrammarStatements.{is_digits};
 ghost use Rattle.chv_lex.specs.Lexemes.{lexeme};
 
-use chv_ast::{Quoted, Seq, TokenKind};
+use chv_ast::{Quoted, TokenKind};
 use chv_lex::Token;
+use sqlite_items::Items;
 use std::alloc::{AllocError, Global};
 
 // The bytes that a token is written with.
@@ -220,10 +221,10 @@ fn escaped_byte(byte: u8) -> u8
 }
 
 // The bytes that a quoted text stands for, from behind its first quote.
-fn unquoted(alloc: Global, written: &[u8]) -> Result<Vec<u8>, AllocError>
-    ensures { IfOk result (λ meant. meant.items ≡ unquoted false written.now) }
+fn unquoted(alloc: Global, written: &[u8]) -> Result<Quoted, AllocError>
+    ensures { IfOk result (λ meant. meant ≡ unquoted false written.now) }
 {
-    let mut meant = Vec::new(alloc);
+    let mut meant = Items::new(alloc);
     let mut takes = false;
     for byte in written {
         if takes {
@@ -247,7 +248,7 @@ pub fn text_of(alloc: Global, piece: &[u8], token: Token) -> Result<Option<Quote
         TokenKind::Quoted => {
             let written = text(piece, token);
             let (_, bytes) = written.split_at(usize::min(1, written.len()));
-            Ok(Some(Seq::of_items(unquoted(alloc, bytes)?)))
+            Ok(Some(unquoted(alloc, bytes)?))
         }
         _ => Ok(None),
     }

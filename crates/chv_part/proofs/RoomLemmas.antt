@@ -7,7 +7,8 @@ use Rattle.chv_types.specs.declared.kind.Scalar.{Scalar}
 use Rattle.chv_types.specs.declared.kind.Scalar.TheVariants as scalar
 use Rattle.chv_types.specs.declared.value.Value.{Value}
 use Rattle.chv_types.specs.declared.value.Value.TheVariants.{Whole, Truth, Text, State}
-use Rattle.chv_block.specs.Spellings.{IsOf, IsOfScalar, scalar_spelling, value_spelling, AllAreOf}
+use Rattle.chv_types.specs.Fits.{IsOfScalar}
+use Rattle.chv_block.specs.Spellings.{IsOf, scalar_spelling, value_spelling, AllAreOf}
 use Rattle.chv_part.specs.Columns.{IsSomeOf, ColumnIsOf}
 use Rattle.chv_part.specs.Parts.{spelled, column_spelling, columns_spelling}
 use Rattle.chv_part.proofs.ColumnLemmas.{tails, column_fits, others_fit, from_first}

@@ -30,7 +30,7 @@ pub fn encode_part(alloc: Global, kinds: &Kinds, block: &Block) -> Result<Bytes,
     file.extend_from_slice(&[0; FRAME_BYTES])?;
     put_body(&mut file, kinds.as_slice(), block.as_slice())?;
     fill_frame(&mut file);
-    Ok(Bytes::of_items(file))
+    Ok(Bytes::from_vec(file))
 }
 
 // Fills in what stands in front of a body: the mark, the body's length and its hash.

@@ -232,7 +232,7 @@ fn read_rows(
     if behind < bytes.len() {
         return Ok(None);
     }
-    Ok(Some(Block::of_items(rows)))
+    Ok(Some(Block::from_vec(rows)))
 }
 
 // Rows without values, each with memory for as many as there are columns.
@@ -242,7 +242,7 @@ fn empty_rows(alloc: Global, count: usize, columns: usize) -> Result<Vec<Row>, A
 {
     let mut rows = Vec::with_capacity(alloc, count)?;
     for _ in 0..count {
-        rows.push(Row::of_items(Vec::with_capacity(alloc, columns)?))?;
+        rows.push(Row::from_vec(Vec::with_capacity(alloc, columns)?))?;
     }
     Ok(rows)
 }

@@ -9,20 +9,22 @@ use Rattle.chv_ast.specs.declared.expr.Literal.{Literal}
 use Rattle.chv_ast.specs.declared.expr.Literal.TheVariants as literal
 use Rattle.chv_ast.specs.declared.refusal.Refusal.{Refusal}
 use Rattle.chv_ast.specs.declared.refusal.Refusal.TheVariants.{UnknownTable, UnknownColumn, NameTaken, TypeMismatch, WrongWidth, LimitPassed}
+use Rattle.chv_ast.specs.declared.statement.Insert.{Insert}
 use Rattle.chv_ast.specs.declared.statement.Settings.{Settings}
-use Rattle.chv_ast.specs.declared.statement.Statement.{Statement}
-use Rattle.chv_ast.specs.declared.statement.Statement.TheVariants as statement
 use Rattle.chv_block.specs.Blocks.{blocks_of}
-use Rattle.chv_block.specs.Spellings.{IsOf, IsOfScalar, AreOf, AllAreOf}
+use Rattle.chv_block.specs.Spellings.{IsOf, AreOf, AllAreOf}
 use Rattle.chv_block.specs.declared.squasher.Sizes.{Sizes}
-use Rattle.chv_catalog.specs.Schemas.{names_of, place_of, columns_of, kinds_of}
+use Rattle.chv_catalog.proofs.StepLemmas.{and_then-Ok, refuse_if-Ok}
+use Rattle.chv_catalog.specs.Checks.{has_repeat, is_state, is_unknown, places_of}
+use Rattle.chv_catalog.specs.Schemas.{names_of, columns_of, kinds_of}
 use Rattle.chv_catalog.specs.declared.table_def.TableDef.{TableDef}
-use Rattle.chv_define.specs.Definitions.{and_then, has_repeat, is_state, is_unknown, number_of, or_refuse, places_of}
-use Rattle.chv_define.proofs.DefinitionLemmas.{and_then-Ok, refuse_if-Ok}
 use Rattle.chv_part.specs.Books.{MAX_ROWS}
 use Rattle.chv_part.specs.Forms.{form_of}
-use Rattle.chv_types.specs.Texts.{value_of}
-use Rattle.chv_types.specs.Values.{IsPlain}
+use Rattle.chv_types.specs.Fits.{IsOfScalar}
+use Rattle.chv_types.specs.Names.{place_of}
+use Rattle.chv_types.specs.Steps.{and_then, or_refuse, refuse_if}
+use Rattle.chv_types.specs.Texts.{value_of, whole_number}
+use Rattle.chv_types.specs.Values.{IsPlain, default_of}
 use Rattle.chv_types.specs.declared.kind.Kind.{Kind}
 use Rattle.chv_types.specs.declared.kind.Kind.TheVariants as kind
 use Rattle.chv_types.specs.declared.kind.Scalar.{Scalar}
@@ -34,7 +36,7 @@ use Rattle.chv_plan.specs.Arrivals.{IsArrival}
 use Rattle.chv_plan.specs.Blocks.{AreBlocks}
 use Rattle.chv_plan.specs.Literals.{literal_value, or_bad, truth_value, whole_text, whole_value}
 use Rattle.chv_plan.specs.Places.{ArePlaces, written}
-use Rattle.chv_plan.specs.Plans.{Delivery, default_of, deliveries_of, filled_names, is_long, kinds_at, planned, planned_for, row_for, rows_for, setting_in, sized_rows, sizes_for, table_of, value_for}
+use Rattle.chv_plan.specs.Plans.{Delivery, deliveries_of, filled_names, is_long, kinds_at, planned, planned_for, row_for, rows_for, setting_in, sized_rows, sizes_for, table_of, value_for}
 use Rattle.chv_plan.proofs.JoinLemmas.{AreBlocks-blocks_of}
 use Rattle.chv_plan.proofs.LiteralLemmas.{value_of_kind}
 use Rattle.chv_plan.proofs.PlaceLemmas.{column_places}
@@ -132,10 +134,10 @@ rows_kinds kinds places (literals ∷ lists) rows plain are is =
 some_rows : (given : Option (List ℕ)) (n : ℕ) → setting_in 1 1048576 65536 given ≡ Ok n → 1 ≤ n
 some_rows None n is = let same : 65536 ≡ n = ok_same 65536 n is in subst (λ (m : ℕ). 1 ≤ m) same (omega arith)
 some_rows (Some digits) n is =
-    let checked = refuse_if-Ok (nat_lt (number_of digits) 1 || nat_lt 1048576 (number_of digits)) LimitPassed (Ok (number_of digits)) n is in
-    let same : number_of digits ≡ n = ok_same (number_of digits) n checked.1 in
-    let parts = or_parts (nat_lt (number_of digits) 1) (nat_lt 1048576 (number_of digits)) checked.0 in
-    subst (λ (m : ℕ). 1 ≤ m) same (ltb-false (number_of digits) 1 parts.0)
+    let found = and_then-Ok (or_refuse LimitPassed (whole_number digits)) (λ number. refuse_if (nat_lt number 1 || nat_lt 1048576 number) LimitPassed (Ok number)) n is in
+    let checked = refuse_if-Ok (nat_lt found.0 1 || nat_lt 1048576 found.0) LimitPassed (Ok found.0) n found.2 in
+    let parts = or_parts (nat_lt found.0 1) (nat_lt 1048576 found.0) checked.0 in
+    subst (λ (m : ℕ). 1 ≤ m) (ok_same found.0 n checked.1) (ltb-false found.0 1 parts.0)
 
 sizes_whole : (settings : Settings) (sizes : Sizes) → sizes_for settings ≡ Ok sizes → 1 ≤ sizes.max_rows
 sizes_whole settings sizes is =
@@ -171,26 +173,26 @@ blocks_arrive table def token from most (block ∷ blocks) short room are =
     (blocks_arrive table def token (from + 1) (most - length block) blocks short (omega (arith, are.1, are.2, room)) are.3)
 
 -- so do those of rows
-pub planned_for-arrives : (table : ℕ) (def : TableDef) (listed : Option (List (List ℕ))) (settings : Settings) (rows : List (List Literal)) (plan : List Delivery) → All IsPlain (kinds_of def)
-    → planned_for table def listed settings rows ≡ Ok plan → All (IsBrought table def) plan
-planned_for-arrives table def listed settings rows plan plain is =
-    let names = filled_names (columns_of def) listed in
+pub planned_for-arrives : (table : ℕ) (def : TableDef) (insert : Insert) (plan : List Delivery) → All IsPlain (kinds_of def) → planned_for table def insert ≡ Ok plan
+    → All (IsBrought table def) plan
+planned_for-arrives table def insert plan plain is =
+    let names = filled_names (columns_of def) insert.columns in
     let places = places_of (columns_of def) names in
     let known = refuse_if-Ok (list_any (is_unknown (columns_of def)) names) UnknownColumn _ plan is in
     let once = refuse_if-Ok (has_repeat names) NameTaken _ plan known.1 in
     let kinds_fit = refuse_if-Ok (list_any is_state (kinds_at (kinds_of def) places)) TypeMismatch _ plan once.1 in
-    let sizes = and_then-Ok (sizes_for settings) _ plan kinds_fit.1 in
-    let short = refuse_if-Ok (is_long settings.token) LimitPassed _ plan sizes.2 in
-    let few = refuse_if-Ok (nat_lt MAX_ROWS (length rows)) LimitPassed _ plan short.1 in
-    let written = and_then-Ok (rows_for (kinds_of def) places rows) _ plan few.1 in
+    let sizes = and_then-Ok (sizes_for insert.settings) _ plan kinds_fit.1 in
+    let short = refuse_if-Ok (is_long insert.settings.token) LimitPassed _ plan sizes.2 in
+    let few = refuse_if-Ok (nat_lt MAX_ROWS (length insert.rows)) LimitPassed _ plan short.1 in
+    let written = and_then-Ok (rows_for (kinds_of def) places insert.rows) _ plan few.1 in
     let blocks = blocks_of sizes.0 (sized_rows (kinds_of def) written.0) in
-    let same : deliveries_of table def settings.token 0 blocks ≡ plan = ok_same (deliveries_of table def settings.token 0 blocks) plan written.2 in
+    let same : deliveries_of table def insert.settings.token 0 blocks ≡ plan = ok_same (deliveries_of table def insert.settings.token 0 blocks) plan written.2 in
     let are : ArePlaces (length (kinds_of def)) places =
     subst (λ (n : ℕ). ArePlaces n places) (sym (length-map def.columns (λ (column : Column). column.kind))) (column_places def.columns names known.0 once.0) in
-    let of = rows_kinds (kinds_of def) places rows written.0 plain are written.1 in
+    let of = rows_kinds (kinds_of def) places insert.rows written.0 plain are written.1 in
     subst (All (IsBrought table def)) same
-    (blocks_arrive table def settings.token 0 MAX_ROWS blocks short.0 (omega arith)
-    (AreBlocks-blocks_of (kinds_of def) sizes.0 written.0 MAX_ROWS (sizes_whole settings sizes.0 sizes.1) of.0 (omega (arith, of.1, ltb-false MAX_ROWS (length rows) few.0))))
+    (blocks_arrive table def insert.settings.token 0 MAX_ROWS blocks short.0 (omega arith)
+    (AreBlocks-blocks_of (kinds_of def) sizes.0 written.0 MAX_ROWS (sizes_whole insert.settings sizes.0 sizes.1) of.0 (omega (arith, of.1, ltb-false MAX_ROWS (length insert.rows) few.0))))
 
 -- the table of a delivery stands, and what is delivered arrives there
 pub record ArrivesIn (tables : List TableDef) (delivery : Delivery) : Type 0 where
@@ -210,11 +212,11 @@ found_stands tables name found is =
     (omega arith, ap (slice_get tables) before ∙ there_is (slice_get tables place.0) there.0 there.1)
 
 -- each delivery that is planned is of an arrival in its table
-pub planned-arrives : (tables : List TableDef) (asked : Statement) (plan : List Delivery) → All (λ (def : TableDef). All IsPlain (kinds_of def)) tables → planned tables asked ≡ Ok plan → All (ArrivesIn tables) plan
+pub planned-arrives : (tables : List TableDef) (insert : Insert) (plan : List Delivery) → All (λ (def : TableDef). All IsPlain (kinds_of def)) tables → planned tables insert ≡ Ok plan → All (ArrivesIn tables) plan
 unfolding planned
-planned-arrives tables (statement.Insert table columns settings rows) plan plain is =
-    let found = and_then-Ok (table_of tables table) (λ f. planned_for f.0 f.1 columns settings rows) plan is in
-    let stands = found_stands tables table found.0 found.1 in
+planned-arrives tables insert plan plain is =
+    let found = and_then-Ok (table_of tables insert.table) (λ f. planned_for f.0 f.1 insert) plan is in
+    let stands = found_stands tables insert.table found.0 found.1 in
     let def : TableDef = found.0.1 in
     let within : found.0.0 - 1 < length tables = slice_get_within tables (found.0.0 - 1) def stands.1 in
     let plain_there : All IsPlain (kinds_of def) =
@@ -226,10 +228,4 @@ planned-arrives tables (statement.Insert table columns settings rows) plan plain
       stands = subst (λ (n : ℕ). slice_get tables (n - 1) ≡ Some def) (sym brought.table_is) stands.1;
       arrives = brought.arrives;
     })
-    plan (planned_for-arrives found.0.0 def columns settings rows plan plain_there found.2)
-planned-arrives tables (statement.CreateTable name columns engine key window) plan plain is = absurd cc
-planned-arrives tables (statement.CreateView name target query) plan plain is = absurd cc
-planned-arrives tables (statement.Query query) plan plain is = absurd cc
-planned-arrives tables (statement.ShowParts table) plan plain is = absurd cc
-planned-arrives tables (statement.Optimize table) plan plain is = absurd cc
-planned-arrives tables statement.FlushQueue plan plain is = absurd cc
+    plan (planned_for-arrives found.0.0 def insert plan plain_there found.2)

@@ -2,7 +2,7 @@
 use Rattle.std.proofs.Common.{Bool, true, false, if◌then◌else◌, List, [], ◌∷◌, ℕ}
 use Rattle.chv_block.specs.Spellings.{AreOf, AllAreOf}
 use Rattle.chv_merge.specs.NormalForms.{normal_form, key_below}
-use Rattle.chv_merge.specs.Sorting.{put_in_order, sorted_by}
+use Rattle.chv_types.specs.Sorting.{put_in_order, sorted_by}
 use Rattle.chv_types.specs.declared.kind.Kind.{Kind}
 use Rattle.chv_types.specs.declared.value.Value.{Value}
 

@@ -8,7 +8,7 @@ use Rattle.chv_types.specs.declared.kind.Scalar.{Scalar}
 use Rattle.chv_types.specs.declared.kind.Scalar.TheVariants.{UInt8, UInt16, UInt32, UInt64, Int8, Int16, Int32, Int64, Bool as Truths, Text}
 use Rattle.chv_types.specs.declared.value.Value.{Value}
 use Rattle.chv_types.specs.declared.value.Value.TheVariants as value
-use Rattle.chv_block.specs.Spellings.{IsOfScalar}
+use Rattle.chv_types.specs.Fits.{IsOfScalar}
 use Rattle.chv_plan.specs.Literals.{or_bad, whole_value}
 
 -- what stands behind a test is given where it holds

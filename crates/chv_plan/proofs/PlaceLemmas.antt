@@ -1,60 +1,18 @@
 -- Places of columns.
-use Rattle.std.proofs.Common.{◌≡◌, ◌<◌, ◌+◌, ◌-◌, ◌||◌, ℕ, suc, Bool, true, false, not, List, [], ◌∷◌, ◌++◌, map, length, get_or, drop, take, Option, None, Some, is_some, is_none, nat_eq, refl, sym, ap, subst, ◌∙◌, add-one}
-use Rattle.std.specs.List.{position, prefix_len, list_any, cons_option}
+use Rattle.std.proofs.Common.{◌≡◌, ◌<◌, ℕ, suc, true, false, List, [], ◌∷◌, length, get_or, drop, Option, None, Some, is_some, is_none, nat_eq, refl, sym, ap, subst, ◌∙◌}
+use Rattle.std.specs.List.{list_any, cons_option}
 use Rattle.std.specs.Str.{bytes_eq}
-use Rattle.std.proofs.Math.Seq.{drop-cons, take-suc}
+use Rattle.std.proofs.Math.Seq.{drop-cons}
 use Rattle.std.proofs.lemmas.Bool.{or_parts, ne_eqb}
-use Rattle.std.proofs.lemmas.List.{length-map, map-append, take_rest}
-use Rattle.std.proofs.lemmas.List.Elements.{filter_map-append}
+use Rattle.std.proofs.lemmas.List.{length-map}
 use Rattle.std.proofs.lemmas.List.Quantifiers.{position-Some}
 use Rattle.std.proofs.lemmas.Slice.Eq.{bytes_eq-Decides}
 use Rattle.chv_catalog.proofs.Positions.{is_some-position}
 use Rattle.chv_catalog.proofs.SchemaLemmas.{place_of-within}
-use Rattle.chv_catalog.specs.Schemas.{place_of}
-use Rattle.chv_define.specs.Definitions.{has_repeat, is_unknown, places_of}
+use Rattle.chv_catalog.specs.Checks.{has_repeat, is_unknown, places_of}
+use Rattle.chv_types.specs.Names.{place_of}
 use Rattle.chv_plan.specs.Places.{ArePlaces, names_in}
 use Rattle.chv_types.specs.declared.table.Column.{Column}
-
--- a test of what is made of the items of a list is a test of the list that is made
-prefix_len-map : {A B : Type 0} (f : A → B) (p : B → Bool) (xs : List A) → prefix_len (λ x. p (f x)) xs ≡ prefix_len p (map f xs)
-prefix_len-map f p [] = refl
-prefix_len-map f p (x ∷ xs) = rw (prefix_len-map f p xs) refl
-
-pub position-map : {A B : Type 0} (f : A → B) (p : B → Bool) (xs : List A) → position (λ x. p (f x)) xs ≡ position p (map f xs)
-position-map f p xs = rw (prefix_len-map f (λ y. not (p y)) xs, length-map xs f) refl
-
--- what is left of names has a repeat where the first of them stands behind, or where those behind have one
-has_repeat-drop : {A : Type 0} (f : A → List ℕ) (xs : List A) (i : ℕ) (none : A) → i < length xs
-    → has_repeat (map f (drop i xs)) ≡ (is_some (place_of (f (get_or xs i none)) (map f (take (length xs - (i + 1)) (drop (i + 1) xs)))) || has_repeat (map f (drop (i + 1) xs)))
-has_repeat-drop f xs i none within = rw (take_rest xs (i + 1), drop-cons xs i none within, add-one) refl
-
-pub repeat_found : {A : Type 0} (f : A → List ℕ) (xs : List A) (i : ℕ) (none : A) → i < length xs
-    → is_some (place_of (f (get_or xs i none)) (map f (take (length xs - (i + 1)) (drop (i + 1) xs)))) ≡ true → true ≡ has_repeat (map f (drop i xs))
-repeat_found f xs i none within there = sym (has_repeat-drop f xs i none within ∙ ap (λ (b : Bool). b || has_repeat (map f (drop (i + 1) xs))) there)
-
-pub repeat_passed : {A : Type 0} (f : A → List ℕ) (xs : List A) (i : ℕ) (none : A) → i < length xs
-    → is_some (place_of (f (get_or xs i none)) (map f (take (length xs - (i + 1)) (drop (i + 1) xs)))) ≡ false
-    → has_repeat (map f (drop (i + 1) xs)) ≡ has_repeat (map f (drop i xs))
-repeat_passed f xs i none within there = sym (has_repeat-drop f xs i none within ∙ ap (λ (b : Bool). b || has_repeat (map f (drop (i + 1) xs))) there)
-
--- what is left of names has one with a property where the first of them has it, or one of those behind
-list_any-drop : {A B : Type 0} (p : B → Bool) (f : A → B) (xs : List A) (i : ℕ) (none : A) → i < length xs
-    → list_any p (map f (drop i xs)) ≡ (p (f (get_or xs i none)) || list_any p (map f (drop (i + 1) xs)))
-list_any-drop p f xs i none within = rw (drop-cons xs i none within, add-one) refl
-
-pub any_found : {A B : Type 0} (p : B → Bool) (f : A → B) (xs : List A) (i : ℕ) (none : A) → i < length xs → p (f (get_or xs i none)) ≡ true
-    → true ≡ list_any p (map f (drop i xs))
-any_found p f xs i none within there = sym (list_any-drop p f xs i none within ∙ ap (λ (b : Bool). b || list_any p (map f (drop (i + 1) xs))) there)
-
-pub any_passed : {A B : Type 0} (p : B → Bool) (f : A → B) (xs : List A) (i : ℕ) (none : A) → i < length xs → p (f (get_or xs i none)) ≡ false
-    → list_any p (map f (drop (i + 1) xs)) ≡ list_any p (map f (drop i xs))
-any_passed p f xs i none within there = sym (list_any-drop p f xs i none within ∙ ap (λ (b : Bool). b || list_any p (map f (drop (i + 1) xs))) there)
-
--- the places of one name more
-pub places_of-take : {A : Type 0} (columns : List (List ℕ)) (f : A → List ℕ) (xs : List A) (i : ℕ) (none : A) (places next : List ℕ) → i < length xs
-    → places ≡ places_of columns (map f (take i xs)) → next ≡ places ++ places_of columns (f (get_or xs i none) ∷ []) → next ≡ places_of columns (map f (take (i + 1) xs))
-places_of-take columns f xs i none places next within before put =
-    rw (put, before, add-one, take-suc xs i none within, map-append, filter_map-append) refl
 
 -- a column at a place has the name of that place
 place_name : (name : List ℕ) (columns : List (List ℕ)) (place : ℕ) → place_of name columns ≡ Some place → get_or columns place [] ≡ name

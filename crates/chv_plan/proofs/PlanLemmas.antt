@@ -3,18 +3,18 @@ use Rattle.std.proofs.Common.{◌≡◌, ◌≤◌, ◌<◌, ◌+◌, ◌-◌, �
 use Rattle.std.specs.List.{All}
 use Rattle.std.proofs.lemmas.Bool.Decides.{nat_tests}
 use Rattle.chv_ast.specs.declared.expr.Literal.{Literal}
+use Rattle.chv_ast.specs.declared.statement.Insert.{Insert}
 use Rattle.chv_ast.specs.declared.refusal.Refusal.{Refusal}
 use Rattle.chv_ast.specs.declared.refusal.Refusal.TheVariants.{UnknownTable, UnknownColumn, NameTaken, TypeMismatch, LimitPassed}
-use Rattle.chv_ast.specs.declared.statement.Settings.{Settings}
-use Rattle.chv_ast.specs.declared.statement.Statement.TheVariants.{Insert}
 use Rattle.chv_block.specs.Blocks.{blocks_of}
 use Rattle.chv_block.specs.declared.squasher.Sizes.{Sizes}
-use Rattle.chv_catalog.specs.Schemas.{kinds_of, names_of, place_of}
+use Rattle.chv_catalog.specs.Schemas.{kinds_of, names_of}
 use Rattle.chv_catalog.specs.declared.table_def.TableDef.{TableDef}
-use Rattle.chv_define.specs.Definitions.{refuse_if, and_then, or_refuse}
 use Rattle.chv_part.specs.Books.{MAX_ROWS}
 use Rattle.chv_part.specs.Forms.{form_of}
 use Rattle.chv_part.specs.Naming.{Names}
+use Rattle.chv_types.specs.Names.{place_of}
+use Rattle.chv_types.specs.Steps.{refuse_if, and_then, or_refuse}
 use Rattle.chv_types.specs.declared.kind.Kind.{Kind}
 use Rattle.chv_types.specs.declared.value.Value.{Value}
 use Rattle.chv_plan.proofs.HeldLemmas.{held-tables, held-count}
@@ -34,37 +34,37 @@ passed false true state places found rest e = cc
 passed false false true places found rest e = cc
 
 -- what follows the checks of columns
-abbrev behind : ℕ → TableDef → Settings → List (List Literal) → List ℕ → Result (List Delivery) Refusal
-behind table def settings rows places =
-    and_then (sizes_for settings) (λ sizes.
-    refuse_if (is_long settings.token) LimitPassed
-    (refuse_if (nat_lt MAX_ROWS (length rows)) LimitPassed
-    (and_then (rows_for (kinds_of def) places rows) (λ written.
-    Ok (deliveries_of table def settings.token 0 (blocks_of sizes (sized_rows (kinds_of def) written)))))))
+abbrev behind : ℕ → TableDef → Insert → List ℕ → Result (List Delivery) Refusal
+behind table def insert places =
+    and_then (sizes_for insert.settings) (λ sizes.
+    refuse_if (is_long insert.settings.token) LimitPassed
+    (refuse_if (nat_lt MAX_ROWS (length insert.rows)) LimitPassed
+    (and_then (rows_for (kinds_of def) places insert.rows) (λ written.
+    Ok (deliveries_of table def insert.settings.token 0 (blocks_of sizes (sized_rows (kinds_of def) written)))))))
 
-planned_for-behind : (table : ℕ) (def : TableDef) (listed : Option (List (List ℕ))) (settings : Settings) (rows : List (List Literal)) (places : List ℕ) → filled_places def.columns listed ≡ Ok places
-    → planned_for table def listed settings rows ≡ behind table def settings rows places
-planned_for-behind table def listed settings rows places filled = passed _ _ _ _ places (behind table def settings rows) filled
+planned_for-behind : (table : ℕ) (def : TableDef) (insert : Insert) (places : List ℕ) → filled_places def.columns insert.columns ≡ Ok places
+    → planned_for table def insert ≡ behind table def insert places
+planned_for-behind table def insert places filled = passed _ _ _ _ places (behind table def insert) filled
 
 -- a size that is refused is so behind the checks of columns
-pub sizes_refused_for : (table : ℕ) (def : TableDef) (listed : Option (List (List ℕ))) (settings : Settings) (rows : List (List Literal)) (places : List ℕ) (refusal : Refusal)
-    → filled_places def.columns listed ≡ Ok places → sizes_for settings ≡ Err refusal → planned_for table def listed settings rows ≡ Err refusal
-sizes_refused_for table def listed settings rows places refusal filled refused = planned_for-behind table def listed settings rows places filled ∙ rw refused refl
+pub sizes_refused_for : (table : ℕ) (def : TableDef) (insert : Insert) (places : List ℕ) (refusal : Refusal) → filled_places def.columns insert.columns ≡ Ok places
+    → sizes_for insert.settings ≡ Err refusal → planned_for table def insert ≡ Err refusal
+sizes_refused_for table def insert places refusal filled refused = planned_for-behind table def insert places filled ∙ rw refused refl
 
 -- rows that are written bring their blocks, and what is held is how they arrive
-pub Brings-blocks : (table : ℕ) (def : TableDef) (listed : Option (List (List ℕ))) (settings : Settings) (rows lists : List (List Literal)) (places filled : List ℕ) (kinds : List Kind) (sizes : Sizes)
+pub Brings-blocks : (table : ℕ) (def : TableDef) (insert : Insert) (lists : List (List Literal)) (places filled : List ℕ) (kinds : List Kind) (sizes : Sizes)
     (written : List (List Value)) (blocks : List (List (List Value))) (held : List Held)
-    → filled_places def.columns listed ≡ Ok places → sizes_for settings ≡ Ok sizes → is_long settings.token ≡ false → 1 ≤ length rows → length rows ≤ MAX_ROWS
-    → kinds ≡ kinds_of def → filled ≡ places → lists ≡ rows → rows_for kinds filled lists ≡ Ok written → blocks ≡ blocks_of sizes (sized_rows kinds written)
-    → AreBlocks kinds (length lists) blocks → (1 ≤ length lists → 1 ≤ length blocks) → HoldsAll table (form_of def) settings.token 0 blocks held
-    → Brings table def listed settings rows held
-Brings-blocks table def listed settings rows lists places filled kinds sizes written blocks held checked sized short some most kinds_are filled_are lists_are read is each there holds =
-    let few : nat_lt MAX_ROWS (length rows) ≡ false = search (rules, tests) in
-    let is_read : rows_for (kinds_of def) places rows ≡ Ok written = cc in
-    let count : length lists ≡ length rows = ap length lists_are in
+    → filled_places def.columns insert.columns ≡ Ok places → sizes_for insert.settings ≡ Ok sizes → is_long insert.settings.token ≡ false → 1 ≤ length insert.rows → length insert.rows ≤ MAX_ROWS
+    → kinds ≡ kinds_of def → filled ≡ places → lists ≡ insert.rows → rows_for kinds filled lists ≡ Ok written → blocks ≡ blocks_of sizes (sized_rows kinds written)
+    → AreBlocks kinds (length lists) blocks → (1 ≤ length lists → 1 ≤ length blocks) → HoldsAll table (form_of def) insert.settings.token 0 blocks held
+    → Brings table def insert held
+Brings-blocks table def insert lists places filled kinds sizes written blocks held checked sized short some most kinds_are filled_are lists_are read is each there holds =
+    let few : nat_lt MAX_ROWS (length insert.rows) ≡ false = search (rules, tests) in
+    let is_read : rows_for (kinds_of def) places insert.rows ≡ Ok written = cc in
+    let count : length lists ≡ length insert.rows = ap length lists_are in
     record {
       blocks = blocks;
-      planned = planned_for-behind table def listed settings rows places checked ∙ rw (sized, short, few, is_read, is, kinds_are) refl;
+      planned = planned_for-behind table def insert places checked ∙ rw (sized, short, few, is_read, is, kinds_are) refl;
       some = there (omega (arith, some, count));
       each = AreBlocks-more (kinds_of def) (length lists) MAX_ROWS blocks (omega (arith, most, count)) (rw kinds_are at each);
       short = short;
@@ -89,11 +89,11 @@ pub found_table : (tables : List TableDef) (name : List ℕ) (number : ℕ) (def
     → slice_get tables (number - 1) ≡ Some def → (table_of tables name ≡ Ok (number, def)) × (1 ≤ number)
 found_table tables name number def is stands = numbered tables (place_of name (names_of tables)) number def (sym is) stands
 
--- an INSERT brings what its rows bring to its table
-pub planned_there : (tables : List TableDef) (name : List ℕ) (columns : Option (List (List ℕ))) (settings : Settings) (rows : List (List Literal)) (number : ℕ) (def : TableDef)
-    → table_of tables name ≡ Ok (number, def) → planned tables (Insert name columns settings rows) ≡ planned_for number def columns settings rows
+-- an INSERT brings what it brings to its table
+pub planned_there : (tables : List TableDef) (insert : Insert) (number : ℕ) (def : TableDef) → table_of tables insert.table ≡ Ok (number, def)
+    → planned tables insert ≡ planned_for number def insert
 unfolding planned
-planned_there tables name columns settings rows number def found = rw found refl
+planned_there tables insert number def found = rw found refl
 
 most-255 : (n : ℕ) → nat_lt 255 n ≡ false → n ≤ 255
 most-255 n short = grind (arith, nat_tests)
@@ -134,23 +134,23 @@ delivers_all tables number def token from most (block ∷ blocks) (one ∷ held)
 )
 
 -- the blocks that are brought arrive in their table
-pub delivered : (tables : List TableDef) (columns : Option (List (List ℕ))) (settings : Settings) (rows : List (List Literal)) (number : ℕ) (def : TableDef) (held : List Held) (wanted : Result (List Delivery) Refusal)
-    → slice_get tables (number - 1) ≡ Some def → 1 ≤ number → wanted ≡ planned_for number def columns settings rows → Brings number def columns settings rows held
+pub delivered : (tables : List TableDef) (insert : Insert) (number : ℕ) (def : TableDef) (held : List Held) (wanted : Result (List Delivery) Refusal)
+    → slice_get tables (number - 1) ≡ Some def → 1 ≤ number → wanted ≡ planned_for number def insert → Brings number def insert held
     → (plan : List Delivery) × (wanted ≡ Ok plan) × DeliversAll tables held plan
-delivered tables columns settings rows number def held wanted stands first is brings = (
-  deliveries_of number def settings.token 0 brings.blocks,
+delivered tables insert number def held wanted stands first is brings = (
+  deliveries_of number def insert.settings.token 0 brings.blocks,
   is ∙ brings.planned,
-  delivers_all tables number def settings.token 0 MAX_ROWS brings.blocks held stands first brings.short (omega arith) brings.each brings.holds,
+  delivers_all tables number def insert.settings.token 0 MAX_ROWS brings.blocks held stands first brings.short (omega arith) brings.each brings.holds,
 )
 
 -- what is brought is for one table
-pub one_table-Brings : (table : ℕ) (def : TableDef) (listed : Option (List (List ℕ))) (settings : Settings) (rows : List (List Literal)) (held : List Held) → Brings table def listed settings rows held
+pub one_table-Brings : (table : ℕ) (def : TableDef) (insert : Insert) (held : List Held) → Brings table def insert held
     → (number : ℕ) × All (λ (delivery : Held). delivery.table ≡ number) held
-one_table-Brings table def listed settings rows held brings = (table, held-tables table (form_of def) settings.token 0 brings.blocks held brings.holds)
+one_table-Brings table def insert held brings = (table, held-tables table (form_of def) insert.settings.token 0 brings.blocks held brings.holds)
 
 -- and has one delivery at least
-pub count-Brings : (table : ℕ) (def : TableDef) (listed : Option (List (List ℕ))) (settings : Settings) (rows : List (List Literal)) (held : List Held) → Brings table def listed settings rows held
+pub count-Brings : (table : ℕ) (def : TableDef) (insert : Insert) (held : List Held) → Brings table def insert held
     → (1 ≤ length held) × (length held ≤ MAX_ROWS)
-count-Brings table def listed settings rows held brings =
-    let count = held-count table (form_of def) settings.token 0 brings.blocks held brings.holds in
+count-Brings table def insert held brings =
+    let count = held-count table (form_of def) insert.settings.token 0 brings.blocks held brings.holds in
     (omega (arith, count, brings.some), omega (arith, count, length-AreBlocks (kinds_of def) MAX_ROWS brings.blocks brings.each))

@@ -9,15 +9,14 @@ use Rattle.chv_ast.specs.declared.expr.Literal.{Literal}
 use Rattle.chv_ast.specs.declared.refusal.Refusal.{Refusal}
 use Rattle.chv_ast.specs.declared.refusal.Refusal.TheVariants.{WrongWidth}
 use Rattle.chv_block.specs.Spellings.{IsOf, AreOf, AllAreOf}
-use Rattle.chv_define.specs.Definitions.{and_then}
-use Rattle.chv_types.specs.Values.{IsPlain, plain_default}
+use Rattle.chv_types.specs.Steps.{and_then}
+use Rattle.chv_types.specs.Values.{IsPlain, default_of}
 use Rattle.chv_types.specs.declared.kind.Kind.{Kind}
 use Rattle.chv_types.specs.declared.kind.Kind.TheVariants as kind
-use Rattle.chv_types.specs.declared.kind.Scalar.{Scalar}
 use Rattle.chv_types.specs.declared.kind.Scalar.TheVariants as scalar
 use Rattle.chv_types.specs.declared.value.Value.{Value}
 use Rattle.chv_plan.specs.Places.{ArePlaces, written}
-use Rattle.chv_plan.specs.Plans.{kinds_at, value_for, values_for, default_of, value_at, arranged, row_for, rows_for}
+use Rattle.chv_plan.specs.Plans.{kinds_at, value_for, values_for, value_at, arranged, row_for, rows_for}
 
 -- the value at a place of a row, where values are written over it
 abbrev pub found_at : ℕ → Value → List ℕ → List Value → Value
@@ -176,10 +175,6 @@ default_kind (kind.State agg arg) plain = absurd plain
 pub defaults_are : (kinds : List Kind) → All IsPlain kinds → AreOf kinds (map default_of kinds)
 defaults_are [] plain = tt
 defaults_are (first ∷ kinds) plain = (default_kind first (plain 0 first (omega arith)), defaults_are kinds (λ k d within. plain (suc k) d (omega (arith, within))))
-
-pub default_is : (of : Kind) (value : Value) → IsPlain of → ((plain : Scalar) → of ≡ kind.Plain plain → value ≡ plain_default plain) → value ≡ default_of of
-default_is (kind.Plain plain) value is same = same plain refl
-default_is (kind.State agg arg) value is same = absurd is
 
 -- rows that were read, in front of those that are left
 abbrev pub in_front : List (List Value) → Result (List (List Value)) Refusal → Result (List (List Value)) Refusal

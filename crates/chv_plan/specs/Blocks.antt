@@ -1,7 +1,6 @@
 -- Blocks as deliveries.
 use Rattle.std.specs.Prelude.{ℕ, false, ◌≡◌, ◌+◌, ◌-◌, ◌≤◌, List, [], ◌∷◌, length, Option, Ok}
-use Rattle.chv_ast.specs.declared.expr.Literal.{Literal}
-use Rattle.chv_ast.specs.declared.statement.Settings.{Settings}
+use Rattle.chv_ast.specs.declared.statement.Insert.{Insert}
 use Rattle.chv_block.specs.Spellings.{AllAreOf}
 use Rattle.chv_catalog.specs.Schemas.{kinds_of}
 use Rattle.chv_catalog.specs.declared.table_def.TableDef.{TableDef}
@@ -35,11 +34,11 @@ HoldsAll table form token number (block ∷ blocks) [] = ⊥
 HoldsAll table form token number (block ∷ blocks) (held ∷ rest) =
     Holds table form.kinds (arrival_of form (source_of form.kinds token number block) block) held × HoldsAll table form token (number + 1) blocks rest
 
--- rows for a table bring blocks, and what is held is how they arrive
-pub record Brings (table : ℕ) (def : TableDef) (listed : Option (List (List ℕ))) (settings : Settings) (rows : List (List Literal)) (held : List Held) : Type 0 where
+-- an INSERT brings blocks to a table, and what is held is how they arrive
+pub record Brings (table : ℕ) (def : TableDef) (insert : Insert) (held : List Held) : Type 0 where
   pub blocks : List (List (List Value))
-  pub planned : planned_for table def listed settings rows ≡ Ok (deliveries_of table def settings.token 0 blocks)
+  pub planned : planned_for table def insert ≡ Ok (deliveries_of table def insert.settings.token 0 blocks)
   pub some : 1 ≤ length blocks
   pub each : AreBlocks (kinds_of def) MAX_ROWS blocks
-  pub short : is_long settings.token ≡ false
-  pub holds : HoldsAll table (form_of def) settings.token 0 blocks held
+  pub short : is_long insert.settings.token ≡ false
+  pub holds : HoldsAll table (form_of def) insert.settings.token 0 blocks held

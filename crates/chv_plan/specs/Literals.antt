@@ -23,28 +23,12 @@ or_bad (Some value) = Ok value
 -- the value of a number in a column of a kind, by its text; it is no text itself
 abbrev pub whole_value : Scalar → List ℕ → Result Value Refusal
 whole_value scalar.Text text = Err BadLiteral
-whole_value scalar.UInt8 text = or_bad (value_of scalar.UInt8 text)
-whole_value scalar.UInt16 text = or_bad (value_of scalar.UInt16 text)
-whole_value scalar.UInt32 text = or_bad (value_of scalar.UInt32 text)
-whole_value scalar.UInt64 text = or_bad (value_of scalar.UInt64 text)
-whole_value scalar.Int8 text = or_bad (value_of scalar.Int8 text)
-whole_value scalar.Int16 text = or_bad (value_of scalar.Int16 text)
-whole_value scalar.Int32 text = or_bad (value_of scalar.Int32 text)
-whole_value scalar.Int64 text = or_bad (value_of scalar.Int64 text)
-whole_value scalar.Bool text = or_bad (value_of scalar.Bool text)
+whole_value other text = or_bad (value_of other text)
 
 -- TRUE and FALSE are of the kind Bool alone
 abbrev pub truth_value : Scalar → Bool → Result Value Refusal
 truth_value scalar.Bool truth = Ok (Truth truth)
-truth_value scalar.Text truth = Err BadLiteral
-truth_value scalar.UInt8 truth = Err BadLiteral
-truth_value scalar.UInt16 truth = Err BadLiteral
-truth_value scalar.UInt32 truth = Err BadLiteral
-truth_value scalar.UInt64 truth = Err BadLiteral
-truth_value scalar.Int8 truth = Err BadLiteral
-truth_value scalar.Int16 truth = Err BadLiteral
-truth_value scalar.Int32 truth = Err BadLiteral
-truth_value scalar.Int64 truth = Err BadLiteral
+truth_value other truth = Err BadLiteral
 
 -- a quoted text is read by its bytes for every kind; one of more than 1,048,576 bytes is too long
 abbrev pub quoted_value : Scalar → List ℕ → Result Value Refusal

@@ -4,7 +4,8 @@ use Rattle.std.specs.List.{list_any}
 use Rattle.chv_ast.specs.declared.expr.Literal.{Literal}
 use Rattle.chv_ast.specs.declared.refusal.Refusal.{Refusal}
 use Rattle.chv_ast.specs.declared.refusal.Refusal.TheVariants.{UnknownColumn, NameTaken, TypeMismatch}
-use Rattle.chv_define.specs.Definitions.{refuse_if, and_then, or_refuse, has_repeat, is_unknown, is_state, places_of}
+use Rattle.chv_catalog.specs.Checks.{has_repeat, is_unknown, is_state, places_of}
+use Rattle.chv_types.specs.Steps.{refuse_if, and_then, or_refuse}
 use Rattle.chv_types.specs.declared.kind.Kind.{Kind}
 use Rattle.chv_types.specs.declared.table.Column.{Column}
 use Rattle.chv_types.specs.declared.value.Value.{Value}

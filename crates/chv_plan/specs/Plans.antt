@@ -1,27 +1,27 @@
 -- What an INSERT brings: docs/SQL.md, "INSERT".
-use Rattle.std.specs.Prelude.{ℕ, Bool, false, ◌≡◌, ◌+◌, ◌-◌, ◌≤◌, ◌||◌, not, nat_eq, nat_lt, List, [], ◌∷◌, length, map, if◌then◌else◌, Option, None, Some, Result, Ok, Err, slice_get}
+use Rattle.std.specs.Prelude.{ℕ, Bool, false, ◌≡◌, ◌+◌, ◌-◌, ◌≤◌, not, nat_eq, nat_lt, List, [], ◌∷◌, length, map, if◌then◌else◌, Option, None, Some, Result, Ok, Err, slice_get}
 use Rattle.std.specs.List.{filter_map, list_any}
 use Rattle.chv_ast.specs.declared.expr.Literal.{Literal}
 use Rattle.chv_ast.specs.declared.refusal.Refusal.{Refusal}
 use Rattle.chv_ast.specs.declared.refusal.Refusal.TheVariants.{UnknownTable, UnknownColumn, NameTaken, TypeMismatch, WrongWidth, LimitPassed}
-use Rattle.chv_ast.specs.declared.statement.Statement.{Statement}
-use Rattle.chv_ast.specs.declared.statement.Statement.TheVariants as statement
-use Rattle.chv_catalog.specs.Schemas.{names_of, place_of, columns_of, kinds_of}
-use Rattle.chv_catalog.specs.declared.table_def.TableDef.{TableDef}
+use Rattle.chv_ast.specs.declared.statement.Insert.{Insert}
 use Rattle.chv_ast.specs.declared.statement.Settings.{Settings}
+use Rattle.chv_catalog.specs.Checks.{has_repeat, is_unknown, is_state, number_within, places_of}
+use Rattle.chv_catalog.specs.Schemas.{names_of, columns_of, kinds_of}
+use Rattle.chv_catalog.specs.declared.table_def.TableDef.{TableDef}
 use Rattle.chv_block.specs.Blocks.{Sized, blocks_of}
 use Rattle.chv_block.specs.Spellings.{row_spelling, block_spelling}
 use Rattle.chv_block.specs.declared.squasher.Sizes.{Sizes}
-use Rattle.chv_define.specs.Definitions.{refuse_if, and_then, or_refuse, has_repeat, is_unknown, is_state, number_of, places_of}
 use Rattle.chv_part.specs.Books.{MAX_ROWS}
 use Rattle.chv_part.specs.Forms.{form_of}
 use Rattle.chv_part.specs.Parts.{part_file}
 use Rattle.chv_sip.specs.BlockIds.{SourceKey, Content, Token}
-use Rattle.chv_types.specs.Values.{plain_default}
+use Rattle.chv_types.specs.Names.{place_of}
+use Rattle.chv_types.specs.Steps.{refuse_if, and_then, or_refuse}
+use Rattle.chv_types.specs.Values.{default_of}
 use Rattle.chv_types.specs.declared.kind.Kind.{Kind}
 use Rattle.chv_types.specs.declared.kind.Kind.TheVariants as kind
 use Rattle.chv_types.specs.declared.value.Value.{Value}
-use Rattle.chv_types.specs.declared.value.Value.TheVariants.{State}
 use Rattle.chv_plan.specs.Arrivals.{Arrival, arrival_of, IsArrival}
 use Rattle.chv_plan.specs.Literals.{literal_value}
 use Rattle.chv_plan.specs.declared.delivery.Delivery.{Delivery as Held}
@@ -34,8 +34,7 @@ pub record Delivery : Type 0 where
 -- a number of a setting, from the least to the most that it may be, or its default
 abbrev pub setting_in : ℕ → ℕ → ℕ → Option (List ℕ) → Result ℕ Refusal
 setting_in least most otherwise None = Ok otherwise
-setting_in least most otherwise (Some digits) =
-    refuse_if (nat_lt (number_of digits) least || nat_lt most (number_of digits)) LimitPassed (Ok (number_of digits))
+setting_in least most otherwise (Some digits) = number_within least most digits
 
 -- how large the blocks of an insert are to be
 abbrev pub sizes_for : Settings → Result Sizes Refusal
@@ -87,11 +86,6 @@ values_for (kind ∷ kinds) [] = Ok []
 values_for (kind ∷ kinds) (literal ∷ literals) =
     and_then (value_for kind literal) (λ value. and_then (values_for kinds literals) (λ values. Ok (value ∷ values)))
 
--- 0, false or the empty text
-abbrev pub default_of : Kind → Value
-default_of (kind.Plain plain) = plain_default plain
-default_of (kind.State agg plain) = State []
-
 -- the value of the column at a place: the one that is written for it, or its default
 abbrev pub value_at : ℕ → Kind → List ℕ → List Value → Value
 value_at place kind [] values = default_of kind
@@ -115,19 +109,19 @@ rows_for kinds places [] = Ok []
 rows_for kinds places (literals ∷ rows) =
     and_then (row_for kinds places literals) (λ row. and_then (rows_for kinds places rows) (λ rest. Ok (row ∷ rest)))
 
--- what rows for a table bring, or the first check that refuses them
-abbrev pub planned_for : ℕ → TableDef → Option (List (List ℕ)) → Settings → List (List Literal) → Result (List Delivery) Refusal
-planned_for table def listed settings rows =
-    let names = filled_names (columns_of def) listed in
+-- what an INSERT brings to the table of a number and this definition, or the first check that refuses it
+abbrev pub planned_for : ℕ → TableDef → Insert → Result (List Delivery) Refusal
+planned_for table def insert =
+    let names = filled_names (columns_of def) insert.columns in
     let places = places_of (columns_of def) names in
     refuse_if (list_any (is_unknown (columns_of def)) names) UnknownColumn
     (refuse_if (has_repeat names) NameTaken
     (refuse_if (list_any is_state (kinds_at (kinds_of def) places)) TypeMismatch
-    (and_then (sizes_for settings) (λ sizes.
-    refuse_if (is_long settings.token) LimitPassed
-    (refuse_if (nat_lt MAX_ROWS (length rows)) LimitPassed
-    (and_then (rows_for (kinds_of def) places rows) (λ written.
-    Ok (deliveries_of table def settings.token 0 (blocks_of sizes (sized_rows (kinds_of def) written))))))))))
+    (and_then (sizes_for insert.settings) (λ sizes.
+    refuse_if (is_long insert.settings.token) LimitPassed
+    (refuse_if (nat_lt MAX_ROWS (length insert.rows)) LimitPassed
+    (and_then (rows_for (kinds_of def) places insert.rows) (λ written.
+    Ok (deliveries_of table def insert.settings.token 0 (blocks_of sizes (sized_rows (kinds_of def) written))))))))))
 
 -- the table of a name, and its number
 abbrev pub table_of : List TableDef → List ℕ → Result (ℕ × TableDef) Refusal
@@ -136,10 +130,8 @@ table_of tables name =
     and_then (or_refuse UnknownTable (slice_get tables place)) (λ def. Ok (place + 1, def)))
 
 -- what an INSERT brings, in order, or the first check that refuses it
-unfoldable pub planned : List TableDef → Statement → Result (List Delivery) Refusal
-planned tables (statement.Insert table columns settings rows) =
-    and_then (table_of tables table) (λ found. planned_for found.0 found.1 columns settings rows)
-planned tables other = Err UnknownTable
+unfoldable pub planned : List TableDef → Insert → Result (List Delivery) Refusal
+planned tables insert = and_then (table_of tables insert.table) (λ found. planned_for found.0 found.1 insert)
 
 -- what is held of a delivery is that of an entry of its table
 pub record Delivers (tables : List TableDef) (held : Held) (delivery : Delivery) : Type 0 where

@@ -1,7 +1,7 @@
 // Plans.
-use chv_ast::Seq;
 use chv_sip::BlockId;
 use chv_types::Bytes;
+use sqlite_items::Items;
 
 /// One block for one table.
 #[derive(Debug, Drop)]
@@ -17,7 +17,7 @@ pub struct Delivery {
 }
 
 /// Deliveries in order.
-pub type Deliveries = Seq<Delivery>;
+pub type Deliveries = Items<Delivery>;
 
 /// What an INSERT brings.
 #[derive(Debug, Drop)]

@@ -2,7 +2,7 @@
 ghost use Rattle.std.specs.Prelude.{◌≡◌, ◌≤◌, ℕ, List, false, length, Ok, Err, IfOk, IfErr, OnOk};
 ghost use Rattle.std.specs.List.{All};
 ghost use Rattle.chv_ast.specs.declared.refusal.Refusal.{Refusal};
-ghost use Rattle.chv_ast.specs.Formed.{WellFormed};
+ghost use Rattle.chv_ast.specs.Formed.{FormedInsert};
 ghost use Rattle.chv_block.specs.Blocks.{and_block, blocks_of};
 ghost use Rattle.chv_block.specs.Spellings.{AllAreOf, block_spelling};
 ghost use Rattle.chv_catalog.specs.Schemas.{kinds_of};
@@ -19,77 +19,61 @@ ghost use Rattle.chv_plan.specs.Plans.{Delivery as Planned, DeliversAll, planned
 use crate::columns::filled_places;
 use crate::row::row_for;
 use crate::settings::{is_long, sizes_for};
-use crate::{Delivery, Plan, PlanFault};
-use chv_ast::{Literal, LiteralRows, Names, Quoted, Refusal, Seq, Settings, Statement};
+use crate::{Delivery, Plan};
+use chv_ast::{Insert, LiteralRow, Quoted, Refusal};
 use chv_block::{Sizes, Squasher, block_bytes, row_size};
-use chv_catalog::{Schema, TableDef};
+use chv_catalog::{Schema, StatementFault, TableDef};
 use chv_merge::normal;
 use chv_part::encode_part;
 use chv_sip::{BlockId, id_of_content, id_of_token};
 use chv_types::{Block, Kind, Kinds};
+use sqlite_items::Items;
 use std::alloc::{AllocError, Global};
 
 // The most rows that an INSERT has.
 const MAX_ROWS: usize = 1048576;
 
 /// What an INSERT brings to its table: blocks that are ready to be delivered, in order. It is refused by the first check that
-/// holds; any other statement is refused too. So far no column of the tables is a state.
+/// holds. So far no column of the tables is a state.
 #[tactic(auto, unfolding(crate::specs::Plans::planned))]
-pub fn plan_insert(alloc: Global, schema: &Schema, insert: &Statement) -> Result<Plan, PlanFault>
-    requires formed { WellFormed insert.now }
+pub fn plan_insert(alloc: Global, schema: &Schema, insert: &Insert) -> Result<Plan, StatementFault>
+    requires formed { FormedInsert insert.now }
     requires plain { All (λ def. All IsPlain (kinds_of def)) schema.now.tables }
     requires few { All (λ def. length (kinds_of def) ≤ 64) schema.now.tables }
     ensures planned { IfOk result (λ held. (plan : List Planned) × (planned schema.now.tables insert.now ≡ Ok plan) × DeliversAll schema.now.tables held.deliveries plan) }
     ensures one_table { IfOk result (λ held. (table : ℕ) × All (λ delivery. delivery.table ≡ table) held.deliveries) }
     ensures count { IfOk result (λ held. (1 ≤ length held.deliveries) × (length held.deliveries ≤ MAX_ROWS)) }
-    ensures refused { IfErr result (λ fault. (refusal : Refusal) → fault ≡ PlanFault.Refused refusal → planned schema.now.tables insert.now ≡ Err refusal) }
+    ensures refused { IfErr result (λ fault. (refusal : Refusal) → fault ≡ StatementFault.Refused refusal → planned schema.now.tables insert.now ≡ Err refusal) }
 {
-    match insert {
-        Statement::Insert {
-            table,
-            columns,
-            settings,
-            rows,
-        } => match schema.table(table.as_slice()) {
-            Some(number) => plan_for(
-                alloc,
-                number,
-                schema.table_def(number),
-                columns,
-                settings,
-                rows,
-            ),
-            None => Err(PlanFault::Refused(Refusal::UnknownTable)),
-        },
-        _ => Err(PlanFault::Refused(Refusal::UnknownTable)),
+    match schema.table(insert.table.as_slice()) {
+        Some(number) => plan_for(alloc, number, schema.table_def(number), insert),
+        None => Err(StatementFault::Refused(Refusal::UnknownTable)),
     }
 }
 
-/// What rows bring to the table of a number.
-pub fn plan_for(
+// What an INSERT brings to the table of a number and this definition.
+fn plan_for(
     alloc: Global,
     table: u32,
     def: &TableDef,
-    listed: &Option<Names>,
-    settings: &Settings,
-    rows: &LiteralRows,
-) -> Result<Plan, PlanFault>
-    requires some { 1 ≤ length rows.now }
+    insert: &Insert,
+) -> Result<Plan, StatementFault>
+    requires some { 1 ≤ length insert.now.rows }
     requires plain { All IsPlain (kinds_of def.now) }
     requires few { length (kinds_of def.now) ≤ 64 }
-    ensures planned { IfOk result (λ held. Brings table def.now listed.now settings.now rows.now held.deliveries) }
-    ensures refused { IfErr result (λ fault. (refusal : Refusal) → fault ≡ PlanFault.Refused refusal → planned_for table def.now listed.now settings.now rows.now ≡ Err refusal) }
+    ensures planned { IfOk result (λ held. Brings table def.now insert.now held.deliveries) }
+    ensures refused { IfErr result (λ fault. (refusal : Refusal) → fault ≡ StatementFault.Refused refusal → planned_for table def.now insert.now ≡ Err refusal) }
 {
-    let columns = def.columns.as_slice();
-    let places = filled_places(alloc, columns, listed)?;
-    let sizes = sizes_for(settings)?;
-    if is_long(&settings.token) || rows.len() > MAX_ROWS {
-        return Err(PlanFault::Refused(Refusal::LimitPassed));
+    let places = filled_places(alloc, def.columns.as_slice(), &insert.columns)?;
+    let sizes = sizes_for(&insert.settings)?;
+    if is_long(&insert.settings.token) || insert.rows.len() > MAX_ROWS {
+        return Err(StatementFault::Refused(Refusal::LimitPassed));
     }
     let kinds = def.kinds(alloc)?;
-    let blocks = blocks_for(alloc, kinds.as_slice(), &places, sizes, rows.as_slice())?;
+    let rows = insert.rows.as_slice();
+    let blocks = blocks_for(alloc, kinds.as_slice(), places.as_slice(), sizes, rows)?;
     Ok(Plan {
-        deliveries: deliveries_of(alloc, table, def, &kinds, &settings.token, blocks)?,
+        deliveries: deliveries_of(alloc, table, def, &kinds, &insert.settings.token, blocks)?,
     })
 }
 
@@ -97,10 +81,10 @@ pub fn plan_for(
 fn blocks_for(
     alloc: Global,
     kinds: &[Kind],
-    places: &[usize],
+    places: &[u32],
     sizes: Sizes,
-    rows: &[Seq<Literal>],
-) -> Result<Vec<Block>, PlanFault>
+    rows: &[LiteralRow],
+) -> Result<Vec<Block>, StatementFault>
     requires plain { All IsPlain kinds.now }
     requires few { length kinds.now ≤ 64 }
     requires places { ArePlaces (length kinds.now) places.now }
@@ -109,7 +93,7 @@ fn blocks_for(
         × (blocks.items ≡ blocks_of sizes (sized_rows kinds.now written))) }
     ensures each { IfOk result (λ blocks. AreBlocks kinds.now (length rows.now) blocks.items) }
     ensures some { IfOk result (λ blocks. 1 ≤ length rows.now → 1 ≤ length blocks.items) }
-    ensures refused { IfErr result (λ fault. (refusal : Refusal) → fault ≡ PlanFault.Refused refusal → rows_for kinds.now places.now rows.now ≡ Err refusal) }
+    ensures refused { IfErr result (λ fault. (refusal : Refusal) → fault ≡ StatementFault.Refused refusal → rows_for kinds.now places.now rows.now ≡ Err refusal) }
 {
     let mut squasher = Squasher::new(alloc, sizes);
     let mut blocks = Vec::new(alloc);
@@ -140,7 +124,7 @@ fn deliveries_of(
     kinds: &Kinds,
     token: &Option<Quoted>,
     blocks: Vec<Block>,
-) -> Result<Seq<Delivery>, AllocError>
+) -> Result<Items<Delivery>, AllocError>
     requires kinds { kinds.now ≡ kinds_of def.now }
     requires plain { All IsPlain kinds.now }
     requires blocks { All (AllAreOf kinds.now) blocks.items }
@@ -154,7 +138,7 @@ fn deliveries_of(
         deliveries.push(delivery_of(alloc, table, def, kinds, token, number, block)?)?;
         number += 1;
     }
-    Ok(Seq::of_items(deliveries))
+    Ok(Items::from_vec(deliveries))
 }
 
 // A block of a number in its insert as a delivery to the table of a number and this definition.

@@ -3,12 +3,10 @@
 
 mod columns;
 mod delivery;
-mod fault;
 mod insert;
 mod literal;
 mod row;
 mod settings;
 
 pub use delivery::{Deliveries, Delivery, Plan};
-pub use fault::PlanFault;
 pub use insert::plan_insert;

@@ -4,7 +4,7 @@ ghost use Rattle.chv_plan.specs.Plans.{is_long, setting_in, sizes_for};
 
 use chv_ast::{Digits, Quoted, Refusal, Settings};
 use chv_block::Sizes;
-use chv_define::number_up_to;
+use chv_catalog::number_within;
 
 // The most rows of a piece, and of the least group.
 const MOST_ROWS: u64 = 1_048_576;
@@ -34,18 +34,13 @@ fn setting_in(
     otherwise: u64,
     digits: &Option<Digits>,
 ) -> Result<u64, Refusal>
-    requires small { most ≤ MOST_BYTES }
     requires default { (least ≤ otherwise) × (otherwise ≤ most) }
-    ensures number { IfOk result (λ number. setting_in least most otherwise digits.now ≡ Ok number) }
+    ensures number { result ≡ setting_in least most otherwise digits.now }
     ensures within { IfOk result (λ number. (least ≤ number) × (number ≤ most)) }
-    ensures refused { IfErr result (λ refusal. setting_in least most otherwise digits.now ≡ Err refusal) }
 {
-    let Some(digits) = digits else {
-        return Ok(otherwise);
-    };
-    match number_up_to(most, digits.as_slice()) {
-        Some(number) if number >= least => Ok(number),
-        _ => Err(Refusal::LimitPassed),
+    match digits {
+        Some(digits) => number_within(least, most, digits.as_slice()),
+        None => Ok(otherwise),
     }
 }
 

@@ -2,16 +2,16 @@
 use Rattle.std.specs.Prelude.{ℕ, Bool, true, false, List, [], ◌∷◌, ◌++◌, ◌≡◌, IsTrue, codes, Option, Some, None, option_map}
 use Rattle.std.specs.List.{cons_option}
 use Rattle.std.proofs.Common.{refl, sym, ◌∙◌, inl, inr, arith, fold, not}
-use Rattle.chv_ast.specs.Formed.{Each, EachOfSome, IfThere, FormedLiteral, FormedSettings, FormedConstant, WellFormed}
+use Rattle.chv_ast.specs.Formed.{Each, EachOfSome, IfThere, FormedLiteral, FormedSettings, FormedConstant, FormedInsert}
 use Rattle.chv_ast.specs.Spellings.{Spelling, Marked, keyword, optional, Listed, enclosed}
 use Rattle.chv_ast.specs.GrammarStatements.{names, list_behind, Setting, Token, Later, Waits, MaxRows, MinRows, MinBytes, Views, setting, settings, set_to, with_setting, default_settings, switch, is_digits, negative, row_literal, insert}
 use Rattle.chv_ast.specs.Words.{IsName, IsDigits, is_word_text}
+use Rattle.chv_ast.specs.declared.statement.Insert.{Insert}
 use Rattle.chv_ast.specs.declared.statement.Settings.{Settings}
-use Rattle.chv_ast.specs.declared.statement.Statement.TheVariants as statement
 use Rattle.chv_ast.specs.declared.expr.Literal.{Literal}
 use Rattle.chv_ast.specs.declared.expr.Literal.TheVariants as literal
 use Rattle.chv_print.specs.Texts.{optional_text, list_text, literal_text}
-use Rattle.chv_print.specs.StatementTexts.{names_text, setting_text, settings_text, printed, wanted, row_text, switch_text, statement_text}
+use Rattle.chv_print.specs.StatementTexts.{names_text, setting_text, settings_text, printed, wanted, row_text, switch_text, insert_text}
 use Rattle.chv_print.proofs.ExprBack.{constant}
 use Rattle.chv_print.proofs.Parts.{part_minus, part_empty, sign_token, ends_both, EndsTokens}
 use Rattle.chv_print.proofs.Tokens.{part_digits, digits_of-text, no_digit_first, whole_token, is_sign-sign}
@@ -184,14 +184,13 @@ ends_settings : (s : Settings) → EndsTokens (settings_text s)
 unfolding settings_text
 ends_settings s = ends_list (codes "SETTINGS ") setting_text (printed s)
 
--- an insert
-pub prints_insert : (table : List ℕ) (columns : Option (List (List ℕ))) (set : Settings) (rows : List (List Literal))
-    → WellFormed (statement.Insert table columns set rows)
-    → Prints insert (statement.Insert table columns set rows) (statement_text (statement.Insert table columns set rows))
-unfolding insert statement_text is_word_text
-prints_insert table columns set rows h =
-    let behind = ends_both (ends_settings set) (record { is = refl }) in
-    let all = ends_both (ends_optional [] names_text columns) behind in
+-- a statement that brings rows
+pub prints_insert : (brought : Insert) → FormedInsert brought → Prints insert brought (insert_text brought)
+unfolding insert insert_text is_word_text
+prints_insert brought h =
+    let behind = ends_both (ends_settings brought.settings) (record { is = refl }) in
+    let all = ends_both (ends_optional [] names_text brought.columns) behind in
     then_ (prints_keyword (codes "INSERT") refl) refl (spaced (then_ (prints_keyword (codes "INTO") refl) refl (spaced
-    (passed (then_ (prints_name table h.0) all.is (then_ (prints_columns columns h.1) behind.is (then_ (prints_settings set h.2) refl (spaced
-    (then_ (prints_keyword (codes "VALUES") refl) refl (spaced (ends (prints_listed row_text prints_row rows h.3) (refl, refl))))))))))))
+    (passed (then_ (prints_name brought.table h.0) all.is (then_ (prints_columns brought.columns h.1) behind.is
+    (then_ (prints_settings brought.settings h.2) refl (spaced
+    (then_ (prints_keyword (codes "VALUES") refl) refl (spaced (ends (prints_listed row_text prints_row brought.rows h.3) (refl, refl))))))))))))

@@ -4,8 +4,11 @@ use Rattle.std.specs.List.{filter_map}
 use Rattle.chv_ast.specs.GrammarStatements.{Setting, Token, Later, Waits, MaxRows, MinRows, MinBytes, Views}
 use Rattle.chv_ast.specs.declared.expr.Literal.{Literal}
 use Rattle.chv_ast.specs.declared.statement.ColumnDef.{ColumnDef}
+use Rattle.chv_ast.specs.declared.statement.CreateTable.{CreateTable}
+use Rattle.chv_ast.specs.declared.statement.CreateView.{CreateView}
 use Rattle.chv_ast.specs.declared.statement.EngineWord.{EngineWord}
 use Rattle.chv_ast.specs.declared.statement.EngineWord.TheVariants as engine
+use Rattle.chv_ast.specs.declared.statement.Insert.{Insert}
 use Rattle.chv_ast.specs.declared.statement.Item.{Item}
 use Rattle.chv_ast.specs.declared.statement.Item.TheVariants as shown
 use Rattle.chv_ast.specs.declared.statement.KindWord.{KindWord}
@@ -108,16 +111,29 @@ table_rest engine key window =
     codes " ENGINE = " <> engine_text engine <> codes " ORDER BY " <> key_text key
     <> digits_text (codes " SETTINGS non_replicated_deduplication_window = ") window
 
+-- a statement that makes a table
+unfoldable pub table_text : CreateTable → List ℕ
+table_text made =
+    codes "CREATE TABLE " <> name_text made.name <> codes " " <> enclosed (listed column_text made.columns)
+    <> table_rest made.engine made.key made.window
+
+-- a statement that makes a view
+unfoldable pub view_text : CreateView → List ℕ
+view_text made =
+    codes "CREATE MATERIALIZED VIEW " <> name_text made.name <> codes " TO " <> name_text made.target <> codes " AS " <> select_text made.select
+
+-- a statement that brings rows
+unfoldable pub insert_text : Insert → List ℕ
+insert_text brought =
+    codes "INSERT INTO " <> name_text brought.table <> optional_text (codes " ") names_text brought.columns
+    <> settings_text brought.settings <> codes " VALUES " <> listed row_text brought.rows
+
 -- a statement
 unfoldable pub statement_text : Statement → List ℕ
-statement_text (statement.CreateTable name columns engine key window) =
-    codes "CREATE TABLE " <> name_text name <> codes " " <> enclosed (listed column_text columns) <> table_rest engine key window
-statement_text (statement.CreateView name target select) =
-    codes "CREATE MATERIALIZED VIEW " <> name_text name <> codes " TO " <> name_text target <> codes " AS " <> select_text select
-statement_text (statement.Insert table columns settings rows) =
-    codes "INSERT INTO " <> name_text table <> optional_text (codes " ") names_text columns <> settings_text settings
-    <> codes " VALUES " <> listed row_text rows
-statement_text (statement.Query select) = select_text select
-statement_text (statement.ShowParts table) = codes "SHOW PARTS " <> name_text table
-statement_text (statement.Optimize table) = codes "OPTIMIZE TABLE " <> name_text table <> codes " FINAL"
+statement_text (statement.CreateTable made) = table_text made
+statement_text (statement.CreateView made) = view_text made
+statement_text (statement.Insert brought) = insert_text brought
+statement_text (statement.Query asked) = select_text asked
+statement_text (statement.ShowParts asked) = codes "SHOW PARTS " <> name_text asked.table
+statement_text (statement.Optimize asked) = codes "OPTIMIZE TABLE " <> name_text asked.table <> codes " FINAL"
 statement_text statement.FlushQueue = codes "SYSTEM FLUSH ASYNC INSERT QUEUE"

@@ -1,33 +1,35 @@
 // The canonical text of tables and views.
-ghost use Rattle.std.specs.Prelude.{◌≡◌, ◌++◌, OnOk, List, ℕ};
+ghost use Rattle.std.specs.Prelude.{◌≡◌, ◌++◌, IfOk, OnOk};
 ghost use Rattle.chv_print.specs.StatementTexts as spec;
 
 use crate::list::{Printed, put_enclosed, put_optional};
 use crate::name::put_name;
 use crate::select::{put_digits, put_select};
 use chv_ast::{
-    ColumnDef, ColumnDefs, Digits, EngineWord, KindWord, Name, Names, Select, Statement,
+    ColumnDef, CreateTable, CreateView, Digits, EngineWord, KindWord, Name, Names, Statement,
 };
-use std::alloc::AllocError;
+use std::alloc::{AllocError, Global};
 
-/// Puts the statement that creates a table behind `out`.
+/// The canonical text of a statement that makes a table.
 #[tactic(auto, unfolding(crate::specs::StatementTexts::statement_text))]
-pub fn put_table(
-    out: &mut Vec<u8>,
-    name: &Name,
-    columns: &ColumnDefs,
-    engine: EngineWord,
-    key: &Names,
-    window: &Option<Digits>,
-) -> Result<(), AllocError>
-    ensures ok { OnOk result (out.new.items
-        ≡ out.old.items ++ spec.statement_text (Statement.CreateTable name.now columns.now engine key.now window.now)) }
+pub fn table_text(alloc: Global, made: &CreateTable) -> Result<Vec<u8>, AllocError>
+    ensures { IfOk result (λ text. text.items ≡ spec.statement_text (Statement.CreateTable made.now)) }
+{
+    let mut text = Vec::new(alloc);
+    put_table(&mut text, made)?;
+    Ok(text)
+}
+
+/// Puts a statement that makes a table behind `out`.
+#[tactic(auto, unfolding(crate::specs::StatementTexts::table_text))]
+pub fn put_table(out: &mut Vec<u8>, made: &CreateTable) -> Result<(), AllocError>
+    ensures ok { OnOk result (out.new.items ≡ out.old.items ++ spec.table_text made.now) }
 {
     out.extend_from_slice(b"CREATE TABLE ")?;
-    put_name(out, name.as_slice())?;
+    put_name(out, made.name.as_slice())?;
     out.push(b' ')?;
-    put_enclosed(out, columns.as_slice())?;
-    put_table_rest(out, engine, key, window)?;
+    put_enclosed(out, made.columns.as_slice())?;
+    put_table_rest(out, made.engine, &made.key, &made.window)?;
     Ok(())
 }
 
@@ -53,22 +55,17 @@ fn put_table_rest(
     Ok(())
 }
 
-/// Puts the statement that creates a view behind `out`.
-#[tactic(auto, unfolding(crate::specs::StatementTexts::statement_text))]
-pub fn put_view(
-    out: &mut Vec<u8>,
-    name: &Name,
-    target: &Name,
-    query: &Select,
-) -> Result<(), AllocError>
-    ensures ok { OnOk result (out.new.items ≡ out.old.items ++ spec.statement_text (Statement.CreateView name.now target.now query.now)) }
+/// Puts a statement that makes a view behind `out`.
+#[tactic(auto, unfolding(crate::specs::StatementTexts::view_text))]
+pub fn put_view(out: &mut Vec<u8>, made: &CreateView) -> Result<(), AllocError>
+    ensures ok { OnOk result (out.new.items ≡ out.old.items ++ spec.view_text made.now) }
 {
     out.extend_from_slice(b"CREATE MATERIALIZED VIEW ")?;
-    put_name(out, name.as_slice())?;
+    put_name(out, made.name.as_slice())?;
     out.extend_from_slice(b" TO ")?;
-    put_name(out, target.as_slice())?;
+    put_name(out, made.target.as_slice())?;
     out.extend_from_slice(b" AS ")?;
-    put_select(out, query)?;
+    put_select(out, &made.select)?;
     Ok(())
 }
 

@@ -6,31 +6,24 @@ ghost use Rattle.chv_print.specs.StatementTexts as spec;
 
 use crate::list::{Printed, put_enclosed, put_list, put_optional};
 use crate::name::{put_name, put_quoted};
-use chv_ast::{Digits, Literal, LiteralRows, Name, Names, Quoted, Seq, Settings, Statement};
+use chv_ast::{Digits, Insert, LiteralRow, Names, Quoted, Settings};
 use std::alloc::AllocError;
 
-/// Puts an insert behind `out`.
-#[tactic(auto, unfolding(crate::specs::StatementTexts::statement_text))]
-pub fn put_insert(
-    out: &mut Vec<u8>,
-    table: &Name,
-    columns: &Option<Names>,
-    settings: &Settings,
-    rows: &LiteralRows,
-) -> Result<(), AllocError>
-    ensures ok { OnOk result (out.new.items
-        ≡ out.old.items ++ spec.statement_text (Statement.Insert table.now columns.now settings.now rows.now)) }
+/// Puts a statement that brings rows behind `out`.
+#[tactic(auto, unfolding(crate::specs::StatementTexts::insert_text))]
+pub fn put_insert(out: &mut Vec<u8>, brought: &Insert) -> Result<(), AllocError>
+    ensures ok { OnOk result (out.new.items ≡ out.old.items ++ spec.insert_text brought.now) }
 {
     out.extend_from_slice(b"INSERT INTO ")?;
-    put_name(out, table.as_slice())?;
-    put_optional(out, b" ", columns)?;
-    put_settings(out, settings)?;
+    put_name(out, brought.table.as_slice())?;
+    put_optional(out, b" ", &brought.columns)?;
+    put_settings(out, &brought.settings)?;
     out.extend_from_slice(b" VALUES ")?;
-    put_list(out, rows.as_slice())?;
+    put_list(out, brought.rows.as_slice())?;
     Ok(())
 }
 
-impl Printed for Seq<Name> {
+impl Printed for Names {
     ghost text = { spec.names_text };
 
     fn put(&self, out: &mut Vec<u8>) -> Result<(), AllocError> {
@@ -38,7 +31,7 @@ impl Printed for Seq<Name> {
     }
 }
 
-impl Printed for Seq<Literal> {
+impl Printed for LiteralRow {
     ghost text = { spec.row_text };
 
     fn put(&self, out: &mut Vec<u8>) -> Result<(), AllocError> {

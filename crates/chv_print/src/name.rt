@@ -7,7 +7,7 @@ ghost use Rattle.chv_print.specs.Texts as spec;
 ghost use Rattle.chv_print.specs.Texts.{name_text, literal_text};
 
 use crate::list::Printed;
-use chv_ast::{Literal, Seq};
+use chv_ast::{Literal, Name};
 use std::alloc::AllocError;
 
 /// The reserved words, which are names in backquotes alone.
@@ -110,7 +110,7 @@ pub fn put_literal(out: &mut Vec<u8>, literal: &Literal) -> Result<(), AllocErro
     }
 }
 
-impl Printed for Seq<u8> {
+impl Printed for Name {
     ghost text = { name_text };
 
     fn put(&self, out: &mut Vec<u8>) -> Result<(), AllocError> {

@@ -1,5 +1,5 @@
 // The canonical text of statements.
-ghost use Rattle.std.specs.Prelude.{◌≡◌, ◌++◌, OnOk, IfOk, List, ℕ};
+ghost use Rattle.std.specs.Prelude.{◌≡◌, ◌++◌, OnOk, IfOk};
 ghost use Rattle.chv_ast.specs.Formed.{WellFormed};
 ghost use Rattle.chv_ast.specs.GrammarStatements.{IsStatement};
 ghost use Rattle.chv_lex.specs.Writes.{Writes};
@@ -28,32 +28,17 @@ fn put_statement(out: &mut Vec<u8>, s: &Statement) -> Result<(), AllocError>
     ensures ok { OnOk result (out.new.items ≡ out.old.items ++ spec.statement_text s.now) }
 {
     match s {
-        Statement::CreateTable {
-            name,
-            columns,
-            engine,
-            key,
-            window,
-        } => put_table(out, name, columns, *engine, key, window),
-        Statement::CreateView {
-            name,
-            target,
-            select,
-        } => put_view(out, name, target, select),
-        Statement::Insert {
-            table,
-            columns,
-            settings,
-            rows,
-        } => put_insert(out, table, columns, settings, rows),
-        Statement::Query { select } => put_select(out, select),
-        Statement::ShowParts { table } => {
+        Statement::CreateTable(made) => put_table(out, made),
+        Statement::CreateView(made) => put_view(out, made),
+        Statement::Insert(brought) => put_insert(out, brought),
+        Statement::Query(asked) => put_select(out, asked),
+        Statement::ShowParts(asked) => {
             out.extend_from_slice(b"SHOW PARTS ")?;
-            put_name(out, table.as_slice())
+            put_name(out, asked.table.as_slice())
         }
-        Statement::Optimize { table } => {
+        Statement::Optimize(asked) => {
             out.extend_from_slice(b"OPTIMIZE TABLE ")?;
-            put_name(out, table.as_slice())?;
+            put_name(out, asked.table.as_slice())?;
             out.extend_from_slice(b" FINAL")?;
             Ok(())
         }

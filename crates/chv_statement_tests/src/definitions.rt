@@ -1,17 +1,16 @@
 // Statements that define a table, and those that are refused.
 use crate::making::{defined, make_table};
-use chv_catalog::{Schema, TableDef};
-use chv_define::DefineFault;
+use chv_catalog::{Schema, StatementFault, TableDef};
 use chv_types::Engine;
 use std::alloc::Global;
 
-// The number of the refusal of a text, or 0 where it defines a table; 98 where it is no statement, 99 for want of memory.
+// The number of the refusal of a text, or 0 where it defines a table; 98 where it is no CREATE TABLE statement, 99 for want of memory.
 fn code(alloc: Global, schema: &Schema, text: &[u8]) -> u8 {
     match defined(alloc, schema, text) {
         None => 98,
         Some(Ok(_)) => 0,
-        Some(Err(DefineFault::Refused(refusal))) => refusal.code(),
-        Some(Err(DefineFault::NoMemory)) => 99,
+        Some(Err(StatementFault::Refused(refusal))) => refusal.code(),
+        Some(Err(StatementFault::NoMemory)) => 99,
     }
 }
 
@@ -36,7 +35,7 @@ fn first_wrong(alloc: Global, schema: &Schema, cases: &[(u8, &[u8])]) -> Option<
 // Each statement has what the checks behind the one that refuses it would refuse too.
 #[test]
 fn the_first_check_that_holds_refuses(rt: HostRuntime) {
-    let cases: [(u8, &[u8]); 18] = [
+    let cases: [(u8, &[u8]); 17] = [
         (
             4,
             b"CREATE TABLE a (a Nope, a Nope) ENGINE = MergeTree ORDER BY x",
@@ -102,7 +101,6 @@ fn the_first_check_that_holds_refuses(rt: HostRuntime) {
             0,
             b"CREATE TABLE t (a UInt8, b Bool) ENGINE = MergeTree ORDER BY tuple()",
         ),
-        (15, b"SYSTEM FLUSH ASYNC INSERT QUEUE"),
     ];
     assert_eq!(rt;
         first_wrong(rt.alloc(), &one_table(rt.alloc()), &cases),

@@ -3,8 +3,8 @@ ghost use Rattle.std.specs.Prelude.{IfSome};
 ghost use Rattle.chv_ast.specs.Formed.{WellFormed};
 
 use chv_ast::Statement;
-use chv_catalog::{Schema, TableDef};
-use chv_define::{DefineFault, define};
+use chv_catalog::{Schema, StatementFault, TableDef};
+use chv_define::define;
 use chv_lex::tokens;
 use chv_parse::statement;
 use std::alloc::Global;
@@ -23,14 +23,16 @@ pub fn statement_of(alloc: Global, text: &[u8]) -> Option<Statement>
     }
 }
 
-/// What a text defines beside the tables that stand; None where it is no statement.
+/// What a text defines beside the tables that stand; None where it is no CREATE TABLE statement.
 pub fn defined(
     alloc: Global,
     schema: &Schema,
     text: &[u8],
-) -> Option<Result<TableDef, DefineFault>> {
-    let statement = statement_of(alloc, text)?;
-    Some(define(alloc, schema, &statement))
+) -> Option<Result<TableDef, StatementFault>> {
+    match statement_of(alloc, text) {
+        Some(Statement::CreateTable(made)) => Some(define(alloc, schema, &made)),
+        _ => None,
+    }
 }
 
 /// Takes a table, unless its name is taken; false where it is not taken.

@@ -4,10 +4,13 @@ use Rattle.std.specs.Str.{bytes_eq}
 use Rattle.std.proofs.lemmas.Slice.Eq.{bytes_eq-Decides}
 use Rattle.chv_ast.specs.Formed.{WellFormed}
 use Rattle.chv_ast.specs.declared.refusal.Refusal.{Refusal}
+use Rattle.chv_ast.specs.declared.statement.CreateTable.{CreateTable}
 use Rattle.chv_ast.specs.declared.statement.Statement.{Statement}
+use Rattle.chv_ast.specs.declared.statement.Statement.TheVariants as statement
 use Rattle.chv_catalog.specs.declared.table_def.TableDef.{TableDef}
-use Rattle.chv_define.specs.Accepted.{is_built_create}
+use Rattle.chv_define.specs.Accepted.{is_built_create, is_built_table}
 use Rattle.chv_define.specs.Definitions.{defined}
+use Rattle.chv_define.proofs.AcceptedLemmas.{defines_table}
 use Rattle.chv_parse.specs.StatementTexts.{statement_in}
 use Rattle.chv_print.specs.StatementTexts.{statement_text}
 use Rattle.chv_store.specs.Openings.{MakesTable}
@@ -31,6 +34,12 @@ none_read tables text unread create def makes is = absurd (none_some create (sym
     none_some : (s : Statement) → None ≡ Some s → ⊥
     none_some s same = cc same
 
+-- a text of another statement than a CREATE TABLE
+pub unmade_read : (tables : List TableDef) (text : List ℕ) (s : Statement) → statement_in text ≡ Some s → ((made : CreateTable) → s ≢ statement.CreateTable made) → MakesNone tables text
+unmade_read tables text s read other create def makes is =
+    let table = defines_table tables create def makes.passes.defines in
+    other table.made (statement_read text s create read makes.passes.formed is ∙ table.is)
+
 -- a text of a statement that is not built
 pub unbuilt_read : (tables : List TableDef) (text : List ℕ) (s : Statement) → statement_in text ≡ Some s → is_built_create s ≡ false → MakesNone tables text
 unbuilt_read tables text s read unbuilt create def makes is =
@@ -45,18 +54,25 @@ pub other_text : (tables : List TableDef) (text : List ℕ) (s : Statement) → 
 other_text tables text s read other create def makes is = other (ap statement_text (statement_read text s create read makes.passes.formed is) ∙ sym is)
 
 -- a text of a statement that is refused
-pub refused_read : (tables : List TableDef) (text : List ℕ) (s : Statement) (refusal : Refusal) → statement_in text ≡ Some s → defined tables s ≡ Err refusal → MakesNone tables text
-refused_read tables text s refusal read refused create def makes is =
-    let same = statement_read text s create read makes.passes.formed is in
-    absurd (other def (sym refused ∙ ap (defined tables) same ∙ makes.passes.defines))
+pub refused_read : (tables : List TableDef) (text : List ℕ) (made : CreateTable) (refusal : Refusal) → statement_in text ≡ Some (statement.CreateTable made) → defined tables made ≡ Err refusal
+    → MakesNone tables text
+refused_read tables text made refusal read refused create def makes is =
+    let table = defines_table tables create def makes.passes.defines in
+    let same = same_table made table.made (statement_read text (statement.CreateTable made) create read makes.passes.formed is ∙ table.is) in
+    absurd (other (sym refused ∙ ap (defined tables) same ∙ table.defines))
   where
-    other : (def : TableDef) → Err refusal ≡ Ok def → ⊥
-    other def x = cc x
+    same_table : (a b : CreateTable) → statement.CreateTable a ≡ statement.CreateTable b → a ≡ b
+    same_table a b same = cc same
+
+    other : Err refusal ≡ Ok def → ⊥
+    other x = cc x
 
 -- a text of a statement that is accepted
-pub accepted_read : (tables : List TableDef) (text : List ℕ) (s : Statement) (def : TableDef) → statement_in text ≡ Some s → is_built_create s ≡ true → statement_text s ≡ text → defined tables s ≡ Ok def
-    → (create : Statement) × MakesTable tables create def × (text ≡ statement_text create)
-accepted_read tables text s def read built written defines = (s, record { built = built; passes = record { formed = read_formed text s read; defines = defines } }, sym written)
+pub accepted_read : (tables : List TableDef) (text : List ℕ) (made : CreateTable) (def : TableDef) → statement_in text ≡ Some (statement.CreateTable made) → is_built_table made ≡ true
+    → statement_text (statement.CreateTable made) ≡ text → defined tables made ≡ Ok def → (create : Statement) × MakesTable tables create def × (text ≡ statement_text create)
+accepted_read tables text made def read built written defines =
+    let create = statement.CreateTable made in
+    (create, record { built = built; passes = record { formed = read_formed text create read; defines = defines } }, sym written)
 
 -- what a test says of two texts
 pub differs : (xs ys : List ℕ) (ne : Bool) → ne ≡ not (bytes_eq xs ys) → ne ≡ true → xs ≢ ys

@@ -1,13 +1,14 @@
 -- What holds of a statement that makes a table, and of the table.
 use Rattle.std.proofs.Common.{◌≡◌, ◌<◌, ◌≤◌, List, length, None, arith}
 use Rattle.chv_ast.specs.declared.statement.Statement.{Statement}
-use Rattle.chv_catalog.specs.Schemas.{kinds_of, names_of, place_of}
+use Rattle.chv_catalog.specs.Schemas.{kinds_of, names_of}
 use Rattle.chv_catalog.specs.declared.table_def.TableDef.{TableDef}
 use Rattle.chv_define.proofs.AcceptedLemmas as accepted
 use Rattle.chv_gate.specs.GateLog.{IsPayload, frame_of}
 use Rattle.chv_gate.proofs.GateLogLemmas.{length-frame_of}
 use Rattle.chv_part.specs.Books.{AreColumns}
 use Rattle.chv_print.specs.StatementTexts.{statement_text}
+use Rattle.chv_types.specs.Names.{place_of}
 use Rattle.chv_store.specs.Openings.{MakesTable}
 use Rattle.chv_store.specs.Stores.{MAX_STEP}
 

@@ -1,27 +1,20 @@
 -- Statements that are accepted one after the other, and the texts of a catalog.
-use Rattle.std.proofs.Common.{◌≡◌, ℕ, List, [], ◌∷◌, ◌++◌, map, get_or, drop, true, Result, Ok, refl, sym, ap, ap₂, subst, append_assoc}
+use Rattle.std.proofs.Common.{◌≡◌, ℕ, List, [], ◌∷◌, ◌++◌, map, get_or, drop, true, refl, sym, ap, ap₂, subst, append_assoc}
 use Rattle.std.proofs.lemmas.List.{append-nil}
-use Rattle.chv_ast.specs.declared.refusal.Refusal.{Refusal}
 use Rattle.chv_ast.specs.declared.statement.Statement.{Statement}
 use Rattle.chv_catalog.specs.declared.table_def.TableDef.{TableDef}
 use Rattle.chv_define.specs.Accepted.{Accepted, AreAccepted, AreTexts, Definition, Defines, IsAccepted, IsSchema, Table as Makes, catalog_payload, is_built_create, tables_in, tables_of}
-use Rattle.chv_define.specs.Definitions.{defined}
+use Rattle.chv_define.proofs.AcceptedLemmas.{Defines-unique}
 use Rattle.chv_store.specs.Openings.{MakesTable}
 use Rattle.chv_store.proofs.DefineLemmas.{statement_read}
 use Rattle.chv_store.proofs.ReadingLemmas.{read_back}
-
-same_def : (r : Result TableDef Refusal) (a b : TableDef) → r ≡ Ok a → r ≡ Ok b → a ≡ b
-same_def r a b x y = cc
-
-same_definition : (tables : List TableDef) (s : Statement) (a b : Definition) → Defines tables s a → Defines tables s b → a ≡ b
-same_definition tables s (Makes a) (Makes b) x y = ap Makes (same_def (defined tables s) a b x y)
 
 -- an accepted text is that of one statement
 text_unique : (tables : List TableDef) (a b : Accepted) → IsAccepted tables a → IsAccepted tables b → catalog_payload a ≡ catalog_payload b → a ≡ b
 text_unique tables a b lawful other same =
     let one = statement_read (catalog_payload a) a.statement b.statement (read_back a.statement lawful.formed) other.formed same in
     ap₂ (λ (s : Statement) (d : Definition). record { statement = s; definition = d }) one
-    (same_definition tables b.statement a.definition b.definition (subst (λ (s : Statement). Defines tables s a.definition) one lawful.defines) other.defines)
+    (Defines-unique tables b.statement a.definition b.definition (subst (λ (s : Statement). Defines tables s a.definition) one lawful.defines) other.defines)
 
 -- an accepted statement that is built makes a table
 made_by : (tables : List TableDef) (s : Statement) (d : Definition) → is_built_create s ≡ true → IsAccepted tables (record { statement = s; definition = d }) → (def : TableDef) × MakesTable tables s def

@@ -13,10 +13,10 @@ ghost use Rattle.chv_store.specs.Openings.{MakesTable};
 ghost use Rattle.chv_store.specs.Stores.{IsUsable, forms_of, states_of};
 
 use crate::Store;
-use chv_ast::Statement;
+use chv_ast::{CreateTable, Statement};
 use chv_catalog::TableDef;
 use chv_gate::frame;
-use chv_print::statement_text;
+use chv_print::table_text;
 use chv_site::Site;
 use chv_table::{PutFault, begin_table};
 use std::alloc::{AllocError, Global};
@@ -28,20 +28,20 @@ impl Store {
         &mut self,
         alloc: Global,
         site: &mut W,
-        create: &Statement,
+        create: &CreateTable,
         def: TableDef,
     ) -> Result<(), PutFault>
         requires usable { IsUsable W.tells self.old (W.outside site.old) }
-        requires makes { MakesTable self.old.schema.tables create.now def }
+        requires makes { MakesTable self.old.schema.tables (Statement.CreateTable create.now) def }
         // The table's book is empty; a crash at any moment of the call leaves the store with the table or without.
         ensures created { W.tells → (payloads : List (List ℕ)) (books : ℕ → Book) → HoldsBooks self.old (W.outside site.old).files payloads books
-            → Turns result (HoldsBooks self.new (W.outside site.new).files (payloads ++ statement_text create.now ∷ []) (with_book (length self.old.schema.tables + 1) no_book books))
+            → Turns result (HoldsBooks self.new (W.outside site.new).files (payloads ++ statement_text (Statement.CreateTable create.now) ∷ []) (with_book (length self.old.schema.tables + 1) no_book books))
             (StandsFor payloads (forms_of self.old) books)
-            (StandsFor (payloads ++ statement_text create.now ∷ []) (forms_of self.old ++ form_of def ∷ []) (with_book (length self.old.schema.tables + 1) no_book books))
+            (StandsFor (payloads ++ statement_text (Statement.CreateTable create.now) ∷ []) (forms_of self.old ++ form_of def ∷ []) (with_book (length self.old.schema.tables + 1) no_book books))
             (W.outside site.old) (W.outside site.new) }
         ensures logged { W.tells → (payloads : List (List ℕ)) (commits : ℕ → List Commit) → HoldsLogs self.old (W.outside site.old).files payloads commits
             → ((W.outside site.old).files (table_log (length self.old.schema.tables + 1))).most ≤ 1
-            → OnOk result (HoldsLogs self.new (W.outside site.new).files (payloads ++ statement_text create.now ∷ []) (with_one (length self.old.schema.tables + 1) [] commits)) }
+            → OnOk result (HoldsLogs self.new (W.outside site.new).files (payloads ++ statement_text (Statement.CreateTable create.now) ∷ []) (with_one (length self.old.schema.tables + 1) [] commits)) }
         ensures held { OnOk result ((self.new.schema.tables ≡ self.old.schema.tables ++ def ∷ []) × (states_of self.new ≡ states_of self.old ++ no_state ∷ [])) }
         ensures usable { OnOk result (IsUsable W.tells self.new (W.outside site.new)) }
         ensures keeps { ChangesLogs W.tells (IsErrOf result PutFault.Failed) (length self.old.schema.tables + 1) (W.outside site.old) (W.outside site.new) }
@@ -64,11 +64,11 @@ impl Store {
 }
 
 // The frame of a statement's canonical text.
-fn spell(alloc: Global, create: &Statement) -> Result<Vec<u8>, AllocError>
-    requires short { length (statement_text create.now) ≤ 1048576 }
-    requires some { 1 ≤ length (statement_text create.now) }
-    ensures { IfOk result (λ frame. frame.items ≡ frame_of (statement_text create.now)) }
+fn spell(alloc: Global, create: &CreateTable) -> Result<Vec<u8>, AllocError>
+    requires short { length (statement_text (Statement.CreateTable create.now)) ≤ 1048576 }
+    requires some { 1 ≤ length (statement_text (Statement.CreateTable create.now)) }
+    ensures { IfOk result (λ frame. frame.items ≡ frame_of (statement_text (Statement.CreateTable create.now))) }
 {
-    let text = statement_text(alloc, create)?;
+    let text = table_text(alloc, create)?;
     frame(alloc, &text)
 }

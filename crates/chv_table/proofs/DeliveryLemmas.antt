@@ -35,15 +35,15 @@ use Rattle.chv_table.proofs.EntryLemmas.{commit_of, IsCommit-commit_of, IsPayloa
 use Rattle.chv_table.proofs.TableLemmas.{AreNumbered, HoldsBook-numbered, HoldsCommits-by, HoldsBook-by, IsPart-by, IsSettledPart-by, parts_left, book_left, table_left}
 
 -- an id that is held is a recent one
-pub recent_held : (table : Table) (files : FileId → FileState) (book : Book) (entry : Entry) (id : BlockId) → HoldsBook table files book → id ≡ entry.id → Contains table.window.ids id
-    → is_recent table.window.size entry.id book ≡ true
+pub recent_held : (table : Table) (files : FileId → FileState) (book : Book) (entry : Entry) (id : BlockId) → HoldsBook table files book → id ≡ entry.id → Contains table.replay.state.ids id
+    → is_recent table.replay.window entry.id book ≡ true
 recent_held table files book entry id held same has =
-    is_recent-Contains table.window.size entry.id book (subst (λ (ids : List BlockId). Contains ids entry.id) held.describes.ids (subst (Contains table.window.ids) same has))
+    is_recent-Contains table.replay.window entry.id book (subst (λ (ids : List BlockId). Contains ids entry.id) held.describes.ids (subst (Contains table.replay.state.ids) same has))
 
-pub recent_lacks : (table : Table) (files : FileId → FileState) (book : Book) (entry : Entry) (id : BlockId) → HoldsBook table files book → id ≡ entry.id → (Contains table.window.ids id → ⊥)
-    → is_recent table.window.size entry.id book ≡ false
+pub recent_lacks : (table : Table) (files : FileId → FileState) (book : Book) (entry : Entry) (id : BlockId) → HoldsBook table files book → id ≡ entry.id → (Contains table.replay.state.ids id → ⊥)
+    → is_recent table.replay.window entry.id book ≡ false
 recent_lacks table files book entry id held same lacks =
-    is_recent-lacks table.window.size entry.id book (λ has. lacks (subst (Contains table.window.ids) (sym same) (subst (λ (ids : List BlockId). Contains ids entry.id) (sym held.describes.ids) has)))
+    is_recent-lacks table.replay.window entry.id book (λ has. lacks (subst (Contains table.replay.state.ids) (sym same) (subst (λ (ids : List BlockId). Contains ids entry.id) (sym held.describes.ids) has)))
 
 -- nothing is done: a crash leaves the table's book
 pub skipped_left : (table : Table) (files : FileId → FileState) (said : List ℕ) (book next : Book) (image : Image) (text : List ℕ) → IsWithin table → HoldsBook table files book → IsLeft files said image text
@@ -60,13 +60,13 @@ pub record IsWritten (table : Table) (id : BlockId) (rows : ℕ) (part : FileId)
   pub room : HasRoomFor 1 table
   pub words : AreWords id
   pub few : rows < 2 ^ 64
-  pub part_is : part ≡ part_of table.number table.next_part
+  pub part_is : part ≡ part_of table.number table.replay.state.next_part
 
 -- it is an entry that is new in the book of its table
 pub record IsNewEntry (table : Table) (files : FileId → FileState) (book : Book) (entry : Entry) (id : BlockId) (rows : ℕ) (encoded : List ℕ) : Type 0 where
   pub held : HoldsBook table files book
   pub brings : Brings table id rows encoded entry
-  pub new : is_recent table.window.size entry.id book ≡ false
+  pub new : is_recent table.replay.window entry.id book ≡ false
 
 -- its table once it is written
 pub record IsNoted (id : BlockId) (rows : ℕ) (log : Log) (old new : Table) : Type 0 where
@@ -84,7 +84,7 @@ Appends bytes log end old new =
 module _ (table : Table) (id : BlockId) (rows : ℕ) (part : FileId) (is : IsWritten table id rows part) where
   -- its commit, and the state behind it
   abbrev commit : Commit
-  commit = commit_of table.next_part rows id
+  commit = commit_of table.replay.state.next_part rows id
 
   abbrev payload : List ℕ
   payload = commit_spelling commit
@@ -96,22 +96,22 @@ module _ (table : Table) (id : BlockId) (rows : ℕ) (part : FileId) (is : IsWri
   apart p low same = let e : p ≡ 0 = ap (λ (f : FileId). f.part) (same ∙ is.within.log) in omega (arith, low, e)
 
   log_apart : table.log.file ≢ part
-  log_apart same = apart table.next_part is.within.first (sym (same ∙ is.part_is))
+  log_apart same = apart table.replay.state.next_part is.within.first (sym (same ∙ is.part_is))
 
-  old_apart : (p : ℕ) → p < table.next_part → part_of table.number p ≢ part
-  old_apart p high same = let e : p ≡ table.next_part = ap (λ (f : FileId). f.part) (same ∙ is.part_is) in omega (arith, high, e)
+  old_apart : (p : ℕ) → p < table.replay.state.next_part → part_of table.number p ≢ part
+  old_apart p high same = let e : p ≡ table.replay.state.next_part = ap (λ (f : FileId). f.part) (same ∙ is.part_is) in omega (arith, high, e)
 
   elsewhere : (f : FileId) → f.table ≢ table.number → f ≢ part
   elsewhere f other same = other (ap (λ (g : FileId). g.table) (same ∙ is.part_is))
 
   -- the commits of its log, and one more
   module _ (files : FileId → FileState) (commits : List Commit) (held : HoldsCommits table files commits) where
-    replays : replayed table.window.size no_state (commits ++ commit ∷ []) ≡ Some state
-    replays = replayed-more table.window.size no_state (held_state table) state commits commit held.replays
-        (taken-add table.window.size table.next_part rows (id ∷ []) (held_state table) refl (omega arith) is.room.in_number)
+    replays : replayed table.replay.window no_state (commits ++ commit ∷ []) ≡ Some state
+    replays = replayed-more table.replay.window no_state (held_state table) state commits commit held.replays
+        (taken-add table.replay.window table.replay.state.next_part rows (id ∷ []) (held_state table) refl (omega arith) is.room.in_number)
 
     right : All IsCommit (commits ++ commit ∷ [])
-    right = All-push IsCommit commits commit held.right (IsCommit-commit_of table.next_part rows id (omega (arith, is.within.counted, is.room.in_number)) is.few is.words)
+    right = All-push IsCommit commits commit held.right (IsCommit-commit_of table.replay.state.next_part rows id (omega (arith, is.within.counted, is.room.in_number)) is.few is.words)
 
     payloads : map commit_spelling (commits ++ commit ∷ []) ≡ map commit_spelling commits ++ payload ∷ []
     payloads = map_push commit_spelling commits commit
@@ -124,7 +124,7 @@ module _ (table : Table) (id : BlockId) (rows : ℕ) (part : FileId) (is : IsWri
     pub written_commits : (between after : FileId → FileState) (new : Table) (log : Log) (bytes : List ℕ) → KeepsOthers part files between → IsNoted id rows log table new → bytes ≡ frame_of payload
         → Appends bytes table.log log (between table.log.file) (after table.log.file) → HoldsCommits new after (commits ++ commit ∷ [])
     written_commits between after new log bytes kept noted frame_is append =
-        let end = append (map commit_spelling commits) payload (ready between kept) (IsPayload-commit_of table.next_part rows id) frame_is in
+        let end = append (map commit_spelling commits) payload (ready between kept) (IsPayload-commit_of table.replay.state.next_part rows id) frame_is in
         let file_is : new.log.file ≡ table.log.file = ap (λ (l : Log). l.file) noted.log_is ∙ noted.file in
         HoldsCommits-by new after (commits ++ commit ∷ []) (held_form table) state noted.form noted.state right
         (subst (λ (ps : List (List ℕ)). IsReady new.log.gate ps (after new.log.file)) (sym payloads)
@@ -137,10 +137,10 @@ module _ (table : Table) (id : BlockId) (rows : ℕ) (part : FileId) (is : IsWri
     lawful : IsLawfulBook (held_form table) (appended entry book)
     lawful = IsLawfulBook-appended (held_form table) entry book entry_is.brings.lawful (omega (arith, is.room.in_number, entry_is.held.describes.entries)) entry_is.new entry_is.held.lawful
 
-    describes : Describes table.window.size state (appended entry book)
-    describes = Describes-added table.window.size table.next_part rows id entry (held_state table) book entry_is.brings.id_is entry_is.held.describes
+    describes : Describes table.replay.window state (appended entry book)
+    describes = Describes-added table.replay.window table.replay.state.next_part rows id entry (held_state table) book entry_is.brings.id_is entry_is.held.describes
 
-    numbered : AreNumbered table.next_part table.layout.items
+    numbered : AreNumbered table.replay.state.next_part table.replay.state.layout
     numbered = HoldsBook-numbered table files book entry_is.held
 
     -- the new part may be torn
@@ -155,10 +155,10 @@ module _ (table : Table) (id : BlockId) (rows : ℕ) (part : FileId) (is : IsWri
 
     -- once the new part is written
     module _ (between : FileId → FileState) (kept : KeepsOthers part files between) (written : between part ≡ settled encoded) where
-      new_part : between (part_of table.number table.next_part) ≡ settled encoded
+      new_part : between (part_of table.number table.replay.state.next_part) ≡ settled encoded
       new_part = ap between (sym is.part_is) ∙ written
 
-      old_parts : (image : Image) → AsImages table.log.file between image → (p : ℕ) → 8 ≤ p → p < table.next_part → IsFileImage (files (part_of table.number p)) (image (part_of table.number p))
+      old_parts : (image : Image) → AsImages table.log.file between image → (p : ℕ) → 8 ≤ p → p < table.replay.state.next_part → IsFileImage (files (part_of table.number p)) (image (part_of table.number p))
       old_parts image others p low high =
           let f : FileId = part_of table.number p in
           subst (λ (s : FileState). IsFileImage s (image f)) (kept f (old_apart p high)) (others f (apart p low))
@@ -167,8 +167,8 @@ module _ (table : Table) (id : BlockId) (rows : ℕ) (part : FileId) (is : IsWri
       new_book_left : (image : Image) → HasFrames (map commit_spelling entry_is.held.commits ++ payload ∷ []) (image table.log.file) → AsImages table.log.file between image
           → TableStands image table.number (held_form table) (appended entry book)
       new_book_left image frames others =
-          let f : FileId = part_of table.number table.next_part in
-          let left : image f ≡ encoded = settled_image encoded (image f) (subst (λ (s : FileState). IsFileImage s (image f)) new_part (others f (apart table.next_part is.within.first))) in
+          let f : FileId = part_of table.number table.replay.state.next_part in
+          let left : image f ≡ encoded = settled_image encoded (image f) (subst (λ (s : FileState). IsFileImage s (image f)) new_part (others f (apart table.replay.state.next_part is.within.first))) in
           record {
             lawful = lawful;
             live = table.log.file;
@@ -179,8 +179,8 @@ module _ (table : Table) (id : BlockId) (rows : ℕ) (part : FileId) (is : IsWri
             state = state;
             replays = replays files entry_is.held.commits entry_is.held.holds;
             describes = describes;
-            parts = IsPart-added image table.number (held_form table) table.next_part rows id entry (held_state table) book entry_is.brings.rows_are entry_is.brings.lawful entry_is.held.describes entry_is.held.lawful.runs
-                (parts_left table.number table.next_part table.layout.items numbered files image (held_form table) book (old_parts image others) entry_is.held.settled_parts entry_is.held.parts)
+            parts = IsPart-added image table.number (held_form table) table.replay.state.next_part rows id entry (held_state table) book entry_is.brings.rows_are entry_is.brings.lawful entry_is.held.describes entry_is.held.lawful.runs
+                (parts_left table.number table.replay.state.next_part table.replay.state.layout numbered files image (held_form table) book (old_parts image others) entry_is.held.settled_parts entry_is.held.parts)
                 (subst (IsPartFile (held_form table) entry.rows) (sym left) entry_is.brings.encoded_is);
           }
 
@@ -201,20 +201,20 @@ module _ (table : Table) (id : BlockId) (rows : ℕ) (part : FileId) (is : IsWri
       pub written_book : (after : FileId → FileState) (new : Table) (log : Log) (bytes : List ℕ) → KeepsOthers table.log.file between after → IsNoted id rows log table new → bytes ≡ frame_of payload
           → Appends bytes table.log log (between table.log.file) (after table.log.file) → HoldsBook new after (appended entry book)
       written_book after new log bytes others noted frame_is append =
-          let f : FileId = part_of table.number table.next_part in
-          let row : PartRow = record { lo = table.entries + 1; hi = table.entries + 1; level = 0; part = table.next_part; rows = rows } in
-          let old_part : (p : ℕ) → 8 ≤ p → p < table.next_part → after (part_of table.number p) ≡ files (part_of table.number p) =
+          let f : FileId = part_of table.number table.replay.state.next_part in
+          let row : PartRow = record { lo = table.replay.state.entries + 1; hi = table.replay.state.entries + 1; level = 0; part = table.replay.state.next_part; rows = rows } in
+          let old_part : (p : ℕ) → 8 ≤ p → p < table.replay.state.next_part → after (part_of table.number p) ≡ files (part_of table.number p) =
           λ p low high. others (part_of table.number p) (apart p low) ∙ kept (part_of table.number p) (old_apart p high) in
-          let last : after f ≡ settled encoded = others f (apart table.next_part is.within.first) ∙ new_part in
+          let last : after f ≡ settled encoded = others f (apart table.replay.state.next_part is.within.first) ∙ new_part in
           let bytes_are : (after f).bytes ≡ encoded = ap (λ (s : FileState). s.bytes) last in
           HoldsBook-by new after (appended entry book) table.number (held_form table) state (entry_is.held.commits ++ commit ∷ []) noted.number noted.form noted.state
           (written_commits files entry_is.held.commits entry_is.held.holds between after new log bytes kept noted frame_is append) lawful describes
-          (IsPart-added (λ g. (after g).bytes) table.number (held_form table) table.next_part rows id entry (held_state table) book entry_is.brings.rows_are entry_is.brings.lawful entry_is.held.describes entry_is.held.lawful.runs
-          (IsPart-by table.number table.next_part table.layout.items numbered (λ g. (files g).bytes) (λ g. (after g).bytes) (held_form table) book
+          (IsPart-added (λ g. (after g).bytes) table.number (held_form table) table.replay.state.next_part rows id entry (held_state table) book entry_is.brings.rows_are entry_is.brings.lawful entry_is.held.describes entry_is.held.lawful.runs
+          (IsPart-by table.number table.replay.state.next_part table.replay.state.layout numbered (λ g. (files g).bytes) (λ g. (after g).bytes) (held_form table) book
           (λ p low high. ap (λ (s : FileState). s.bytes) (old_part p low high)) entry_is.held.parts)
           (subst (IsPartFile (held_form table) entry.rows) (sym bytes_are) entry_is.brings.encoded_is))
-          (All-push (IsSettledPart after table.number) table.layout.items row
-          (IsSettledPart-by table.number table.next_part table.layout.items numbered files after old_part entry_is.held.settled_parts) (last ∙ ap settled (sym bytes_are)))
+          (All-push (IsSettledPart after table.number) table.replay.state.layout row
+          (IsSettledPart-by table.number table.replay.state.next_part table.replay.state.layout numbered files after old_part entry_is.held.settled_parts) (last ∙ ap settled (sym bytes_are)))
 
   -- the calls of a delivery, one after the other
   module _ (old : Outside) (book : Book) (entry : Entry) (encoded : List ℕ) (entry_is : IsNewEntry table old.files book entry id rows encoded) where
@@ -239,5 +239,5 @@ module _ (table : Table) (id : BlockId) (rows : ℕ) (part : FileId) (is : IsWri
         goes_on old mid new (DeliveryLeft table book (appended entry book) old.files old.said)
         (IsLeftWith table.log.file (HasFramesOrMore before payload) mid.files mid.said)
         (during_part mid writing)
-        (appending before payload (ready old.files entry_is.held.commits entry_is.held.holds mid.files kept) (IsPayload-commit_of table.next_part rows id) frame_is)
+        (appending before payload (ready old.files entry_is.held.commits entry_is.held.holds mid.files kept) (IsPayload-commit_of table.replay.state.next_part rows id) frame_is)
         (λ image text left. committed_left old.files book entry encoded entry_is mid.files kept written old.said image text (left.0, left.1, left.2 ∙ same))

@@ -1,5 +1,5 @@
 -- How commits that are read one after the other become a table.
-use Rattle.std.proofs.Common.{◌≡◌, ◌≢◌, ℕ, ◌+◌, ◌-◌, ◌<◌, ◌≤◌, List, [], ◌∷◌, ◌++◌, length, get_or, map, Some, refl, sym, ap, subst, ◌∙◌, arith, length-drop}
+use Rattle.std.proofs.Common.{◌≡◌, ◌≢◌, ℕ, ◌+◌, ◌<◌, ◌≤◌, List, [], ◌∷◌, ◌++◌, length, get_or, map, Some, refl, sym, ap, subst, ◌∙◌, arith}
 use Rattle.std.specs.List.{All}
 use Rattle.std.proofs.lemmas.List.{map_push}
 use Rattle.std.proofs.lemmas.List.Elements.{All-nil, All-push}
@@ -70,17 +70,8 @@ module _ (window : ℕ) (old new : State) where
   taken-next (Add part rows ids) fits = ap (λ (s : State). s.next_part) (taken-Some_add window part rows ids old new fits).new_is
   taken-next (Merge lo hi part level rows) fits = ap (λ (s : State). s.next_part) (taken-Some_merge window lo hi part level rows old new fits).new_is
 
-  -- no more ids are kept than the window has
-  taken-ids : (commit : Commit) → taken window old commit ≡ Some new → length old.ids ≤ window → length new.ids ≤ window
-  taken-ids (Add part rows ids) fits few =
-      omega (arith, ap (λ (s : State). length s.ids) (taken-Some_add window part rows ids old new fits).new_is, length-drop (length (old.ids ++ ids) - window) (old.ids ++ ids))
-  taken-ids (Merge lo hi part level rows) fits few = omega (arith, few, ap (λ (s : State). length s.ids) (taken-Some_merge window lo hi part level rows old new fits).new_is)
-
 pub took_part : (gate window : ℕ) (old : State) (next : ℕ) (new : State) → TakesCommit gate window old next new → new.next_part ≡ old.next_part + 1
 took_part gate window old next new took = taken-next window old new took.commit took.fits
-
-pub took_ids : (gate window : ℕ) (old : State) (next : ℕ) (new : State) → TakesCommit gate window old next new → length old.ids ≤ window → length new.ids ≤ window
-took_ids gate window old next new took few = taken-ids window old new took.commit took.fits few
 
 -- a table that was opened is within what is held of it
 pub opened_within : (number gate : ℕ) (def : TableDef) (state : State) (table : Table) → IsTableOf number def table → table.log ≡ record { file = table_log number; gate = gate } → held_state table ≡ state

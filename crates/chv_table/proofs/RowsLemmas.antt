@@ -28,11 +28,11 @@ row_at layout place = get_or layout place (record { lo = 0; hi = 0; level = 0; p
 
 -- the rows of one part more
 pub rows_more : (table : Table) (files : FileId → FileState) (book : Book) (place : ℕ) (rows read : List (List Value)) → HoldsBook table files book
-    → place < length table.layout.items → length read < 2 ^ 64 → IsPartFile (held_form table) read (files (part_of table.number (row_at table.layout.items place).part)).bytes
-    → rows ≡ rows_of_parts (held_form table) book (take place table.layout.items) → rows ++ read ≡ rows_of_parts (held_form table) book (take (place + 1) table.layout.items)
+    → place < length table.replay.state.layout → length read < 2 ^ 64 → IsPartFile (held_form table) read (files (part_of table.number (row_at table.replay.state.layout place).part)).bytes
+    → rows ≡ rows_of_parts (held_form table) book (take place table.replay.state.layout) → rows ++ read ≡ rows_of_parts (held_form table) book (take (place + 1) table.replay.state.layout)
 rows_more table files book place rows read held within short is so_far =
     let form = held_form table in
-    let layout : List PartRow = table.layout.items in
+    let layout : List PartRow = table.replay.state.layout in
     let row : PartRow = row_at layout place in
     let of : PartRow → List (List Value) = λ (part : PartRow). part_rows form book part.lo part.hi in
     let part : IsPart (λ f. (files f).bytes) table.number form book row =
@@ -65,10 +65,10 @@ first_damaged number form layout place files damage within whole is = record {
 
 -- the parts of a table that holds a book are whole
 pub book_parts_whole : (table : Table) (files : FileId → FileState) (book : Book) → HoldsBook table files book
-    → ArePartsWhole table.number (held_form table) table.layout.items (λ f. (files f).bytes)
+    → ArePartsWhole table.number (held_form table) table.replay.state.layout (λ f. (files f).bytes)
 book_parts_whole table files book held =
     All-weaker (IsPart (λ f. (files f).bytes) table.number (held_form table) book) (λ (row : PartRow). IsWhole (held_form table) (files (part_of table.number row.part)).bytes)
-    (λ (row : PartRow) is. (part_rows (held_form table) book row.lo row.hi, is.file)) table.layout.items held.parts
+    (λ (row : PartRow) is. (part_rows (held_form table) book row.lo row.hi, is.file)) table.replay.state.layout held.parts
 
 -- no part is both whole and damaged
 whole_or_damaged : (number : ℕ) (form : TableForm) (part : ℕ) (file : List ℕ) (damage : Damage) → IsWhole form file → IsDamageOfPart number form part file damage → ⊥

@@ -34,7 +34,7 @@ pub HoldsCommits-sound : (table : Table) (files : FileId → FileState) (commits
 HoldsCommits-sound table files commits held = IsSound-replayed (held_form table).window no_state (held_state table) commits IsSound-no_state held.replays
 
 -- and so the parts of a table that holds a book are numbered
-pub HoldsBook-numbered : (table : Table) (files : FileId → FileState) (book : Book) → HoldsBook table files book → AreNumbered table.next_part table.layout.items
+pub HoldsBook-numbered : (table : Table) (files : FileId → FileState) (book : Book) → HoldsBook table files book → AreNumbered table.replay.state.next_part table.replay.state.layout
 HoldsBook-numbered table files book held = (HoldsCommits-sound table files held.commits held.holds).parts
 
 module _ (number next : ℕ) (layout : List PartRow) (numbered : AreNumbered next layout) where
@@ -70,7 +70,7 @@ module _ (number next : ℕ) (layout : List PartRow) (numbered : AreNumbered nex
 
 -- a table's files stand for its book in an image of its log and its parts
 pub book_left : (table : Table) (files : FileId → FileState) (image : Image) (book : Book) → IsWithin table → (held : HoldsBook table files book) → HasFrames (map commit_spelling held.commits) (image table.log.file)
-    → ((part : ℕ) → 8 ≤ part → part < table.next_part → IsFileImage (files (part_of table.number part)) (image (part_of table.number part)))
+    → ((part : ℕ) → 8 ≤ part → part < table.replay.state.next_part → IsFileImage (files (part_of table.number part)) (image (part_of table.number part)))
     → TableStands image table.number (held_form table) book
 book_left table files image book within held frames is = record {
   lawful = held.lawful;
@@ -82,7 +82,7 @@ book_left table files image book within held frames is = record {
   state = held_state table;
   replays = held.holds.replays;
   describes = held.describes;
-  parts = parts_left table.number table.next_part table.layout.items (HoldsBook-numbered table files book held) files image (held_form table) book is held.settled_parts held.parts;
+  parts = parts_left table.number table.replay.state.next_part table.replay.state.layout (HoldsBook-numbered table files book held) files image (held_form table) book is held.settled_parts held.parts;
 }
 
 -- the log of a table is a file of its own
@@ -109,15 +109,15 @@ holds_commits_kept table old new commits same held = record {
 pub holds_book_kept : (table : Table) (old new : FileId → FileState) (book : Book) → IsWithin table → ((f : FileId) → f.table ≡ table.number → new f ≡ old f) → HoldsBook table old book → HoldsBook table new book
 holds_book_kept table old new book within kept held =
     let numbered = HoldsBook-numbered table old book held in
-    let same : (part : ℕ) → 8 ≤ part → part < table.next_part → new (part_of table.number part) ≡ old (part_of table.number part) = λ part low high. kept (part_of table.number part) refl in
+    let same : (part : ℕ) → 8 ≤ part → part < table.replay.state.next_part → new (part_of table.number part) ≡ old (part_of table.number part) = λ part low high. kept (part_of table.number part) refl in
     record {
       lawful = held.lawful;
       commits = held.commits;
       holds = holds_commits_kept table old new held.commits (kept table.log.file (log_in_table table within)) held.holds;
       describes = held.describes;
-      parts = IsPart-by table.number table.next_part table.layout.items numbered (λ f. (old f).bytes) (λ f. (new f).bytes) (held_form table) book
+      parts = IsPart-by table.number table.replay.state.next_part table.replay.state.layout numbered (λ f. (old f).bytes) (λ f. (new f).bytes) (held_form table) book
           (λ part low high. ap (λ (s : FileState). s.bytes) (same part low high)) held.parts;
-      settled_parts = IsSettledPart-by table.number table.next_part table.layout.items numbered old new same held.settled_parts;
+      settled_parts = IsSettledPart-by table.number table.replay.state.next_part table.replay.state.layout numbered old new same held.settled_parts;
     }
 
 -- a table holds commits where it has a form and a state, of which all that is asked holds
@@ -154,7 +154,7 @@ HoldsBook-begun table files log bytes log_is state_is begun_now short =
     HoldsCommits-by table files [] (held_form table) no_state refl state_is (All-nil IsCommit)
     (subst (λ (l : Log). IsReady l.gate [] (files l.file)) (sym log_is) ready) refl in
     HoldsBook-by table files no_book table.number (held_form table) no_state [] refl refl state_is holds (IsLawfulBook-no_book (held_form table))
-    (record { entries = refl; ids = sym (drop-nil (0 - table.window.size)); layout = refl }) (All-nil _) (All-nil _)
+    (record { entries = refl; ids = sym (drop-nil (0 - table.replay.window)); layout = refl }) (All-nil _) (All-nil _)
 
 -- the standing gate of a table that holds commits is in its log's file
 pub HoldsCommits-placed : (table : Table) (files : FileId → FileState) (commits : List Commit) → HoldsCommits table files commits → IsPlaced table files

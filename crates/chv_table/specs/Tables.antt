@@ -1,7 +1,6 @@
 -- What is held of a table, beside its files and the book that they stand for.
 use Rattle.std.specs.List.{All}
 use Rattle.std.specs.Prelude.{ℕ, ◌≡◌, ◌+◌, ◌-◌, ◌*◌, ◌<◌, ◌≤◌, ◌^◌, List, length, map, Some}
-use Rattle.std.specs.Vec.{vec_len, vec_capacity}
 use Rattle.chv_site.specs.declared.file_id.FileId.{FileId}
 use Rattle.chv_site.specs.Files.{FileState, settled}
 use Rattle.chv_site.specs.FileIds.{part_of}
@@ -19,7 +18,7 @@ use Rattle.chv_table.specs.declared.table.Table.{Table}
 
 -- what is held of a table says the same of its files as its definition
 abbrev pub held_form : Table → TableForm
-held_form table = record { engine = table.engine; window = table.window.size; kinds = table.kinds; key = table.key }
+held_form table = record { engine = table.engine; window = table.replay.window; kinds = table.kinds; key = table.key }
 
 -- a table is that of a number and a definition
 pub record IsTableOf (number : ℕ) (def : TableDef) (table : Table) : Type 0 where
@@ -28,11 +27,11 @@ pub record IsTableOf (number : ℕ) (def : TableDef) (table : Table) : Type 0 wh
 
 -- what is held of a table's log
 abbrev pub held_state : Table → State
-held_state table = record { layout = table.layout.items; entries = table.entries; next_part = table.next_part; ids = table.window.ids }
+held_state table = table.replay.state
 
 -- for how many deliveries there is room in memory
 abbrev pub spare : Table → ℕ
-spare table = vec_capacity table.layout - vec_len table.layout
+spare table = table.replay.spare
 
 -- of a table the same is held, but for the room in memory
 pub record KeepsHeld (old new : Table) : Type 0 where

@@ -13,7 +13,6 @@ ghost use Rattle.chv_part.specs.declared.damage.Damage.{Damage};
 ghost use Rattle.chv_part.specs.Books.{AreColumns, Book, no_book};
 ghost use Rattle.chv_part.specs.Forms.{form_of};
 ghost use Rattle.chv_catalog.specs.Schemas.{kinds_of};
-ghost use Rattle.chv_sip.specs.BlockIds.{last_ids};
 ghost use Rattle.chv_table.specs.Damage.{IsLogDamage};
 ghost use Rattle.chv_table.specs.Faults.{log_fault_of};
 ghost use Rattle.chv_table.specs.Opening.{Opens, ReadsCommit, TakesCommit, LacksCommit};
@@ -24,10 +23,8 @@ use chv_catalog::TableDef;
 use chv_commit::{Replay, read_commit};
 use chv_gate::{GateFault, GateRead, Log, begin, step};
 use chv_part::Damage;
-use chv_sip::BlockId;
-use chv_site::{FIRST_PART, FileId, Site};
-use chv_types::Duplicate;
-use chv_window::Window;
+use chv_site::{FileId, Site};
+use chv_types::Places;
 use std::alloc::{AllocError, Global};
 
 /// Begins the log of a new table, the number of which is 1 or more. After an `Err` it may be begun again.
@@ -49,8 +46,8 @@ pub fn begin_table<W: Site>(
     ensures keeps { ChangesOnly W.tells (IsErrOf result PutFault.Failed) (table_log number) (W.outside site.old) (W.outside site.new) }
 {
     let kinds = def.kinds(alloc)?;
-    let key = def.key.copy(alloc)?;
-    let window = Window::new(alloc, def.window)?;
+    let key = Places::from_slice(alloc, def.key.as_slice())?;
+    let replay = Replay::new(alloc, def.window)?;
     let file = FileId::table_log(number);
     begin(site, file)?;
     Ok(Table {
@@ -59,10 +56,7 @@ pub fn begin_table<W: Site>(
         kinds,
         key,
         log: Log::at(file, 0),
-        layout: Vec::new(alloc),
-        entries: 0,
-        next_part: FIRST_PART,
-        window,
+        replay,
     })
 }
 
@@ -161,36 +155,20 @@ fn replayed_table(
     replay: Replay,
 ) -> Result<Table, AllocError>
     requires window { replay.window ≡ def.now.window }
-    requires ids { length replay.state.ids ≤ replay.window }
     ensures table { IfOk result (λ table. IsTableOf number def.now table) }
     ensures log { IfOk result (λ table. table.log ≡ record { file = table_log number; gate = gate }) }
     ensures state { IfOk result (λ table. held_state table ≡ replay.state) }
 {
     let kinds = def.kinds(alloc)?;
-    let key = def.key.copy(alloc)?;
-    let window = window_of(alloc, def.window, replay.ids(alloc)?.as_slice())?;
+    let key = Places::from_slice(alloc, def.key.as_slice())?;
     Ok(Table {
         number,
         engine: def.engine,
         kinds,
         key,
         log: Log::at(FileId::table_log(number), gate),
-        entries: replay.entries(),
-        next_part: replay.next_part(),
-        layout: replay.into_layout(),
-        window,
+        replay,
     })
-}
-
-// A window of so many ids that holds these, the last of which it keeps.
-fn window_of(alloc: Global, size: u32, ids: &[BlockId]) -> Result<Window, AllocError>
-    ensures { IfOk result (λ window. window ≡ record { size = size; ids = last_ids size ids.now }) }
-{
-    let mut window = Window::new(alloc, size)?;
-    for id in ids {
-        window.push(*id);
-    }
-    Ok(window)
 }
 
 // Why a log was not read on, as a fault of its table.

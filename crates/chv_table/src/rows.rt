@@ -32,23 +32,23 @@ impl Table {
         ensures keeps { OnlyReads W.tells (IsErrOf result TableFault.Failed) (W.outside site.old) (W.outside site.new) }
     {
         let rows = self.read_parts(alloc, site)?;
-        Ok(normal(&self.key, Block::of_items(rows))?)
+        Ok(normal(&self.key, Block::from_vec(rows))?)
     }
 
     // The rows of all live parts, part by part.
     fn read_parts<W: Site>(&self, alloc: Global, site: &mut W) -> Result<Vec<Row>, TableFault>
         requires columns { AreColumns self.now.kinds }
         ensures rows { W.tells → IfOk result (λ rows. (book : Book) → HoldsBook self.now (W.outside site.old).files book
-            → rows.items ≡ flat_map (λ (row : LivePart). part_rows (held_form self.now) book row.lo row.hi) self.now.layout.items) }
-        ensures whole { W.tells → OnOk result (ArePartsWhole self.now.number (held_form self.now) self.now.layout.items (bytes_in (W.outside site.old))) }
+            → rows.items ≡ flat_map (λ (row : LivePart). part_rows (held_form self.now) book row.lo row.hi) (held_state self.now).layout) }
+        ensures whole { W.tells → OnOk result (ArePartsWhole self.now.number (held_form self.now) (held_state self.now).layout (bytes_in (W.outside site.old))) }
         ensures damaged { W.tells → (damage : Damage) → IsErrOf result (TableFault.Damaged damage)
-            → IsPartDamage self.now.number (held_form self.now) self.now.layout.items (bytes_in (W.outside site.old)) damage }
+            → IsPartDamage self.now.number (held_form self.now) (held_state self.now).layout (bytes_in (W.outside site.old)) damage }
         ensures keeps { OnlyReads W.tells (IsErrOf result TableFault.Failed) (W.outside site.old) (W.outside site.new) }
     {
         let mut rows = Vec::new(alloc);
-        for row in self.layout.as_slice() {
+        for row in self.replay.layout() {
             let read = read_live_part(alloc, site, self.number, row.part, &self.kinds)?;
-            rows.append(&mut read.into_items())?;
+            rows.append(&mut read.into_vec())?;
         }
         Ok(rows)
     }

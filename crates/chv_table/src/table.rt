@@ -7,13 +7,12 @@ ghost use Rattle.chv_part.specs.Books.{Entry, Book, appended, arrived};
 ghost use Rattle.chv_table.specs.Delivering.{ChangesTable, Brings, Turns, commits_after, state_after};
 ghost use Rattle.chv_table.specs.Tables.{IsWithin, IsPlaced, Takes, HoldsBook, HoldsCommits, KeepsHeld, held_form, held_state, spare, HasRoomFor};
 
-use chv_commit::{PartRow, frame_of_one};
+use chv_commit::{PartRow, Replay, frame_of_one};
 use chv_gate::Log;
 use chv_part::write_part;
 use chv_sip::BlockId;
 use chv_site::{Failed, FileId, Site};
 use chv_types::{Engine, Kinds, Places};
-use chv_window::Window;
 use std::alloc::AllocError;
 
 /// What became of a delivery.
@@ -37,14 +36,8 @@ pub struct Table {
     /// The places of its sorting key's columns, in key order.
     pub(crate) key: Places,
     pub(crate) log: Log,
-    /// The live parts in order.
-    pub(crate) layout: Vec<PartRow>,
-    /// How many entries there are.
-    pub(crate) entries: u64,
-    /// The number of the next part.
-    pub(crate) next_part: u64,
-    /// The ids of the last entries.
-    pub(crate) window: Window,
+    /// What the commits of its log say.
+    pub(crate) replay: Replay,
 }
 
 impl Table {
@@ -52,14 +45,14 @@ impl Table {
     pub fn entries(&self) -> u64
         ensures { result ≡ (held_state self.now).entries }
     {
-        self.entries
+        self.replay.entries()
     }
 
     /// The live parts, each behind the entries of the one before.
     pub fn parts(&self) -> &[PartRow]
         ensures { result.now ≡ (held_state self.now).layout }
     {
-        self.layout.as_slice()
+        self.replay.layout()
     }
 
     /// Makes room in memory for so many deliveries. After an `Err` the table may be used as before.
@@ -69,7 +62,7 @@ impl Table {
         ensures kept { spare self.old ≤ spare self.new }
         ensures same { KeepsHeld self.old self.new }
     {
-        self.layout.reserve(count as usize)
+        self.replay.reserve(count as usize)
     }
 
     /// Delivers a block: where its id is among the last, nothing is done; else its part, which is `encoded`, is written and
@@ -96,7 +89,7 @@ impl Table {
         ensures same { (self.new.number ≡ self.old.number) × (held_form self.new ≡ held_form self.old) }
         ensures keeps { ChangesTable W.tells (IsErr result) self.old.number (held_state self.old).next_part (W.outside site.old) (W.outside site.new) }
     {
-        if self.window.has(id) {
+        if self.replay.has(id) {
             return Ok(Delivered::Skipped);
         }
         self.write(site, id, rows, encoded)?;
@@ -124,38 +117,11 @@ impl Table {
         ensures keeps { ChangesTable W.tells (IsErr result) self.old.number (held_state self.old).next_part (W.outside site.old) (W.outside site.new) }
     {
         // The part first: a commit that a crash left without its part would be damage.
-        let part = FileId::part(self.number, self.next_part);
+        let next = self.replay.next_part();
+        let part = FileId::part(self.number, next);
         write_part(site, part, encoded)?;
-        self.log
-            .append(site, &frame_of_one(self.next_part, rows, id))?;
-        self.note(id, rows);
+        self.log.append(site, &frame_of_one(next, rows, id))?;
+        self.replay.take_one(rows, id);
         Ok(())
-    }
-
-    // Notes a block that was written. It takes no memory.
-    fn note(&mut self, id: BlockId, rows: u64)
-        requires counted { self.old.next_part + length self.old.layout.items ≤ 2 ^ 62 + 2 * self.old.entries }
-        requires room { HasRoomFor 1 self.old }
-        ensures state { held_state self.new ≡ state_after Delivered.Written self.old rows id }
-        ensures size { self.new.window.size ≡ self.old.window.size }
-        ensures same { self.new ≡ record self.old { layout = self.new.layout; entries = self.new.entries; next_part = self.new.next_part; window = self.new.window } }
-        ensures room { spare self.old ≤ spare self.new + 1 }
-    {
-        let row = PartRow {
-            lo: self.entries + 1,
-            hi: self.entries + 1,
-            level: 0,
-            part: self.next_part,
-            rows,
-        };
-        match self.layout.push(row) {
-            Ok(()) => {}
-            Err(_) => {
-                prove!(false);
-            }
-        }
-        self.entries += 1;
-        self.next_part += 1;
-        self.window.push(id);
     }
 }

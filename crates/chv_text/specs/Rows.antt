@@ -1,7 +1,8 @@
 -- Rows as they are said to clients: docs/FORMATS.md, "Replies".
 use Rattle.std.specs.Prelude.{ℕ, ◌/◌, ◌%◌, ◌==◌, cond, Bool, true, false, List, [], ◌∷◌, ◌++◌, codes, slice_index}
 use Rattle.std.specs.Fmt.{signed_decimal}
-use Rattle.std.specs.List.{flat_map, join_by}
+use Rattle.std.specs.List.{flat_map, join_by, zip}
+use Rattle.chv_types.specs.declared.kind.Kind.{Kind}
 use Rattle.chv_types.specs.declared.value.Value.{Value}
 use Rattle.chv_types.specs.declared.value.Value.TheVariants.{Whole, Truth, Text, State}
 
@@ -23,17 +24,21 @@ abbrev pub truth_text : Bool → List ℕ
 truth_text false = codes "false"
 truth_text true = codes "true"
 
--- a value: a number in decimal, `true` or `false`, a text with its escapes, and a state as the digits of its bytes
-abbrev pub value_text : Value → List ℕ
-value_text (Whole n) = signed_decimal n
-value_text (Truth truth) = truth_text truth
-value_text (Text bytes) = flat_map escaped bytes
-value_text (State bytes) = flat_map hex_byte bytes
+-- a value of a kind: a number in decimal, `true` or `false`, a text with its escapes, and a state as the digits of its bytes
+abbrev pub value_text : Kind → Value → List ℕ
+value_text kind (Whole n) = signed_decimal n
+value_text kind (Truth truth) = truth_text truth
+value_text kind (Text bytes) = flat_map escaped bytes
+value_text kind (State bytes) = flat_map hex_byte bytes
 
--- a row: its values with tabs between them, and a line feed behind
-abbrev pub row_text : List Value → List ℕ
-row_text row = join_by value_text (codes "\t") row ++ codes "\n"
+-- a value beside the kind of its column
+abbrev pub cell_text : Kind × Value → List ℕ
+cell_text cell = value_text cell.0 cell.1
+
+-- a row of columns of these kinds: its values with tabs between them, and a line feed behind
+abbrev pub row_text : List Kind → List Value → List ℕ
+row_text kinds row = join_by cell_text (codes "\t") (zip kinds row) ++ codes "\n"
 
 -- rows: one after the other
-abbrev pub rows_text : List (List Value) → List ℕ
-rows_text rows = flat_map row_text rows
+abbrev pub rows_text : List Kind → List (List Value) → List ℕ
+rows_text kinds rows = flat_map (row_text kinds) rows

@@ -1,58 +1,61 @@
 // Rows as they are said to clients.
 ghost use Rattle.std.specs.Prelude.{◌≡◌, ◌<◌, [], ◌∷◌, ◌++◌, codes, IfOk, IfSome, IsNone, OnOk};
-ghost use Rattle.std.specs.List.{flat_map, join_by};
-ghost use Rattle.chv_text.specs.Rows.{escaped, hex_byte, hex_digit, truth_text, value_text, row_text, rows_text};
+ghost use Rattle.std.specs.List.{flat_map, join_by, zip};
+ghost use Rattle.chv_text.specs.Rows.{cell_text, escaped, hex_byte, hex_digit, truth_text, value_text, row_text, rows_text};
 
-use chv_types::{Block, Bytes, Row, Value};
+use chv_types::{Block, Bytes, Kind, Kinds, Value};
 use itoa::Buffer;
 use std::alloc::{AllocError, Global};
 
-/// The rows of a block as TabSeparated text: a line for each.
-pub fn rows_text(alloc: Global, block: &Block) -> Result<Bytes, AllocError>
-    ensures { IfOk result (λ text. text ≡ rows_text block.now) }
+/// The rows of a block of columns of these kinds as TabSeparated text: a line for each, with a value for each kind.
+pub fn rows_text(alloc: Global, kinds: &Kinds, block: &Block) -> Result<Bytes, AllocError>
+    ensures { IfOk result (λ text. text ≡ rows_text kinds.now block.now) }
 {
     let mut out = Vec::new(alloc);
     for row in block.as_slice() {
-        put_row(&mut out, row.as_slice())?;
+        put_row(&mut out, kinds.as_slice(), row.as_slice())?;
     }
-    Ok(Bytes::of_items(out))
+    Ok(Bytes::from_vec(out))
 }
 
 // Puts the line of a row behind `out`.
-fn put_row(out: &mut Vec<u8>, row: &[Value]) -> Result<(), AllocError>
-    ensures { OnOk result (out.new.items ≡ out.old.items ++ row_text row.now) }
+fn put_row(out: &mut Vec<u8>, kinds: &[Kind], row: &[Value]) -> Result<(), AllocError>
+    ensures { OnOk result (out.new.items ≡ out.old.items ++ row_text kinds.now row.now) }
 {
-    put_values(out, row)?;
+    put_values(out, kinds, row)?;
     out.extend_from_slice(b"\n")
 }
 
-// Puts values behind `out`, with tabs between them.
-fn put_values(out: &mut Vec<u8>, values: &[Value]) -> Result<(), AllocError>
-    ensures { OnOk result (out.new.items ≡ out.old.items ++ join_by value_text (codes "\t") values.now) }
+// Puts the values of columns behind `out`, with tabs between them.
+fn put_values(out: &mut Vec<u8>, kinds: &[Kind], values: &[Value]) -> Result<(), AllocError>
+    ensures { OnOk result (out.new.items ≡ out.old.items ++ join_by cell_text (codes "\t") (zip kinds.now values.now)) }
 {
-    match values {
-        [first, rest @ ..] => {
-            put_value(out, first)?;
-            put_behind_tabs(out, rest)
-        }
+    match kinds {
+        [kind, kinds @ ..] => match values {
+            [value, values @ ..] => {
+                put_value(out, *kind, value)?;
+                put_behind_tabs(out, kinds, values)
+            }
+            [] => Ok(()),
+        },
         [] => Ok(()),
     }
 }
 
-// Puts values behind `out`, each behind a tab.
-fn put_behind_tabs(out: &mut Vec<u8>, values: &[Value]) -> Result<(), AllocError>
-    ensures { OnOk result (out.new.items ≡ out.old.items ++ flat_map (λ value. codes "\t" ++ value_text value) values.now) }
+// Puts the values of columns behind `out`, each behind a tab.
+fn put_behind_tabs(out: &mut Vec<u8>, kinds: &[Kind], values: &[Value]) -> Result<(), AllocError>
+    ensures { OnOk result (out.new.items ≡ out.old.items ++ flat_map (λ cell. codes "\t" ++ cell_text cell) (zip kinds.now values.now)) }
 {
-    for value in values {
+    for i in 0..kinds.len().min(values.len()) {
         out.extend_from_slice(b"\t")?;
-        put_value(out, value)?;
+        put_value(out, kinds[i], &values[i])?;
     }
     Ok(())
 }
 
-// Puts the text of a value behind `out`.
-fn put_value(out: &mut Vec<u8>, value: &Value) -> Result<(), AllocError>
-    ensures { OnOk result (out.new.items ≡ out.old.items ++ value_text value.now) }
+// Puts the text of a value of a kind behind `out`.
+fn put_value(out: &mut Vec<u8>, kind: Kind, value: &Value) -> Result<(), AllocError>
+    ensures { OnOk result (out.new.items ≡ out.old.items ++ value_text kind value.now) }
 {
     match value {
         Value::Whole(n) => out.extend_from_slice(Buffer::new().format(*n).as_bytes()),

@@ -1,6 +1,11 @@
 pub mod Aggregates
+pub mod Fits
 pub mod Kinds
+pub mod Members
+pub mod Names
 pub mod Order
 pub mod OrderLaws
+pub mod Sorting
+pub mod Steps
 pub mod Texts
 pub mod Values

@@ -31,3 +31,7 @@ bytes (State spelling) = spelling
 -- values go by rank, then by number, then by bytes, of which a beginning stands before what it begins
 unfoldable pub value_cmp : Value → Value → Ordering
 value_cmp = then_cmp (on rank nat_cmp) (then_cmp (on number int_cmp) (on bytes (slice_cmp nat_cmp)))
+
+-- rows go column by column
+abbrev pub row_cmp : List Value → List Value → Ordering
+row_cmp = slice_cmp value_cmp

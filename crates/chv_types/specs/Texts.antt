@@ -27,8 +27,8 @@ unfoldable pub small : ℕ → Option ℕ
 small n = cond (nat_lt n (2 ^ 64)) (Some n) None
 
 -- the number of decimal digits, where it has 64 bits
-abbrev pub small_number : List ℕ → Option ℕ
-small_number text = option_and_then small (digits_number text)
+abbrev pub whole_number : List ℕ → Option ℕ
+whole_number text = option_and_then small (digits_number text)
 
 -- the number of digits, or of a minus sign and digits
 abbrev pub signed_number : List ℕ → Option ℤ
@@ -57,13 +57,6 @@ text_of text = cond (nat_le (length text) 1048576) (Some (Text text)) None
 
 -- the value of a kind that a text writes
 abbrev pub value_of : Scalar → List ℕ → Option Value
-value_of scalar.UInt8 text = whole_of (range_of scalar.UInt8) text
-value_of scalar.UInt16 text = whole_of (range_of scalar.UInt16) text
-value_of scalar.UInt32 text = whole_of (range_of scalar.UInt32) text
-value_of scalar.UInt64 text = whole_of (range_of scalar.UInt64) text
-value_of scalar.Int8 text = whole_of (range_of scalar.Int8) text
-value_of scalar.Int16 text = whole_of (range_of scalar.Int16) text
-value_of scalar.Int32 text = whole_of (range_of scalar.Int32) text
-value_of scalar.Int64 text = whole_of (range_of scalar.Int64) text
 value_of scalar.Bool text = truth_of text
 value_of scalar.Text text = text_of text
+value_of integers text = whole_of (range_of integers) text

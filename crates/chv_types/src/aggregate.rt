@@ -1,6 +1,6 @@
 // Aggregate functions.
 ghost use Rattle.std.specs.Prelude.{◌≡◌, false, IsNone, IsTrue, IfSome};
-ghost use Rattle.chv_types.specs.Aggregates.{agg_word, ending, in_any_case, is_agg_name, result_of};
+ghost use Rattle.chv_types.specs.Aggregates.{agg_of, agg_word, ending, form_of, in_any_case, is_agg_name, result_of};
 
 use crate::Scalar;
 
@@ -63,7 +63,9 @@ impl AggForm {
 
 /// The aggregate function and the form with this name. It is matched letter by letter, but for `count`, `sum`, `min` and
 /// `max`, which may be written in any letter case.
+#[tactic(auto, unfolding(crate::specs::Aggregates::agg_of))]
 pub fn agg_named(name: &[u8]) -> Option<(AggName, AggForm)>
+    ensures named { result ≡ agg_of name.now }
     ensures found { IfSome result (λ named. IsTrue (is_agg_name named.0 named.1 name.now)) }
     ensures none { IsNone result → (agg : AggName) (form : AggForm) → is_agg_name agg form name.now ≡ false }
 {
@@ -87,6 +89,7 @@ pub fn agg_named(name: &[u8]) -> Option<(AggName, AggForm)>
 
 // The form in which a name names the function.
 fn form_named(agg: AggName, name: &[u8]) -> Option<AggForm>
+    ensures form { result ≡ form_of agg name.now }
     ensures found { IfSome result (λ form. IsTrue (is_agg_name agg form name.now)) }
     ensures none { IsNone result → (form : AggForm) → is_agg_name agg form name.now ≡ false }
 {

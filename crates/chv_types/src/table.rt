@@ -1,19 +1,17 @@
 // Columns and rows of tables.
 use crate::{Kind, Value};
-use chv_ast::Seq;
+use sqlite_items::Items;
 
 /// Bytes in order.
-pub type Bytes = Seq<u8>;
+pub type Bytes = Items<u8>;
 /// The values of a row, one for each column.
-pub type Row = Seq<Value>;
-/// Rows in order.
-pub type Block = Seq<Row>;
+pub type Row = Items<Value>;
 /// The columns of a table, in order.
-pub type Columns = Seq<Column>;
+pub type Columns = Items<Column>;
 /// The kinds of columns, in order.
-pub type Kinds = Seq<Kind>;
+pub type Kinds = Items<Kind>;
 /// Places of columns, counted from 0.
-pub type Places = Seq<u32>;
+pub type Places = Items<u32>;
 
 /// A column of a table.
 #[derive(Debug, Drop)]

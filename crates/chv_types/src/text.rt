@@ -3,7 +3,7 @@ ghost use Rattle.std.specs.Prelude.{◌≡◌, ◌^◌, ◌<ℤ◌, pos, neg_ℤ
 ghost use Rattle.std.specs.Char.{is_ascii_digit};
 ghost use Rattle.std.specs.List.{fold, list_all};
 ghost use Rattle.std.specs.Option.{option_map, option_and_then};
-ghost use Rattle.chv_types.specs.Texts.{are_digits, digits_number, small, small_number, with_digit, within, whole_of, truth_of, text_of, value_of};
+ghost use Rattle.chv_types.specs.Texts.{are_digits, digits_number, small, whole_number, with_digit, within, whole_of, truth_of, text_of, value_of};
 
 use crate::{Bytes, Scalar, Value};
 use std::alloc::{AllocError, Global};
@@ -80,9 +80,7 @@ fn parse_bytes(alloc: Global, text: &[u8]) -> Result<Value, TextFault>
     if text.len() > MAX_TEXT {
         return Err(TextFault::BadLiteral);
     }
-    let mut bytes = Vec::new(alloc);
-    bytes.extend_from_slice(text)?;
-    Ok(Value::Text(Bytes::of_items(bytes)))
+    Ok(Value::Text(Bytes::from_slice(alloc, text)?))
 }
 
 // The number from `low` to `high` that a text writes.
@@ -108,7 +106,7 @@ fn parse_minus(low: i128, high: i128, digits: &[u8]) -> Option<Value>
     requires { neg_ℤ (pos (2 ^ 64)) <ℤ low }
     ensures { result ≡ option_and_then (within (low, high)) (option_map (λ n. neg_ℤ (pos n)) (digits_number digits.now)) }
 {
-    match small_number(digits) {
+    match whole_number(digits) {
         Some(n) => minus_in_range(low, high, n),
         None => None,
     }
@@ -119,7 +117,7 @@ fn parse_plain(low: i128, high: i128, digits: &[u8]) -> Option<Value>
     requires { high <ℤ pos (2 ^ 64) }
     ensures { result ≡ option_and_then (within (low, high)) (option_map pos (digits_number digits.now)) }
 {
-    match small_number(digits) {
+    match whole_number(digits) {
         Some(n) => plain_in_range(low, high, n),
         None => None,
     }
@@ -151,10 +149,10 @@ fn in_range(low: i128, high: i128, n: i128) -> Option<Value>
     }
 }
 
-// The number of decimal digits, where it has 64 bits.
+/// The number that decimal digits write, one or more, where it has 64 bits.
 #[tactic(auto, unfolding(crate::specs::Texts::digits_number))]
-fn small_number(text: &[u8]) -> Option<u64>
-    ensures { result ≡ small_number text.now }
+pub fn whole_number(text: &[u8]) -> Option<u64>
+    ensures { result ≡ whole_number text.now }
 {
     if !are_digits(text) {
         return None;

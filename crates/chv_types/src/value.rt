@@ -1,8 +1,8 @@
 // Values.
 ghost use Rattle.std.specs.Prelude.{◌≡◌, IfOk};
-ghost use Rattle.chv_types.specs.Values.{IsPlain, plain_default};
+ghost use Rattle.chv_types.specs.Values.{default_of, empty_state};
 
-use crate::{Bytes, Kind, Scalar};
+use crate::{AggName, Bytes, Kind, Scalar};
 use std::alloc::{AllocError, Global};
 
 /// A value of a row.
@@ -18,18 +18,24 @@ pub enum Value {
     State(Bytes),
 }
 
-/// What a column of the kind has where nothing is said: 0, false or the empty text.
+/// What a column of the kind has where nothing is said: 0, false, the empty text, or the state of no rows.
 pub fn default_value(alloc: Global, kind: Kind) -> Result<Value, AllocError>
-    requires plain { IsPlain kind }
-    ensures { IfOk result (λ value. (scalar : Scalar) → kind ≡ Kind.Plain scalar → value ≡ plain_default scalar) }
+    ensures { IfOk result (λ value. value ≡ default_of kind) }
 {
     match kind {
         Kind::Plain(Scalar::Bool) => Ok(Value::Truth(false)),
         Kind::Plain(Scalar::Text) => Ok(Value::Text(Bytes::new(alloc))),
         Kind::Plain(_) => Ok(Value::Whole(0)),
-        Kind::State(..) => {
-            prove!(false);
-            Ok(Value::State(Bytes::new(alloc)))
-        }
+        Kind::State(agg, _) => empty_state(alloc, agg),
+    }
+}
+
+// The state of no rows: 0 in eight bytes, or for the least and the greatest the byte 0 in front of no value.
+fn empty_state(alloc: Global, agg: AggName) -> Result<Value, AllocError>
+    ensures { IfOk result (λ value. value ≡ empty_state agg) }
+{
+    match agg {
+        AggName::Min | AggName::Max => Ok(Value::State(Bytes::from_slice(alloc, &[0])?)),
+        _ => Ok(Value::State(Bytes::from_slice(alloc, &[0; 8])?)),
     }
 }

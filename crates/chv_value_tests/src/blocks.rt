@@ -1,6 +1,6 @@
 // Values, kinds and blocks as they are written out by hand, and values as they are read back, whole and off the grammar.
+ghost use Rattle.chv_types.specs.Fits.{IsOfScalar};
 ghost use Rattle.chv_types.specs.declared.value.Value.TheVariants.{Whole};
-ghost use Rattle.chv_block.specs.Spellings.{IsOfScalar};
 
 use crate::making::{bytes, pair, pairs, text};
 use chv_block::{block_bytes, put_kinds, read_value, row_size, spell_value};

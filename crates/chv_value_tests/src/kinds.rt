@@ -1,11 +1,9 @@
 // Names of kinds and functions, the kinds of results, kinds that widen, and what a column has where nothing is said.
-use crate::making::bytes;
 use chv_types::{
-    AggForm, AggName, Duplicate, Kind, Scalar, Value, agg_named, default_value, result_kind,
-    scalar_named, widens,
+    AggForm, AggName, Kind, Scalar, Seen, Value, agg_named, compare_seen, default_value,
+    result_kind, scalar_named, widens,
 };
-use std::alloc::{AllocError, Global};
-use std::test::Fail;
+use std::alloc::Global;
 
 // Kinds are named letter by letter.
 #[test]
@@ -73,17 +71,29 @@ fn kinds_widen(rt: HostRuntime) {
     }
 }
 
-// What a column of the kind has where nothing is said, copied.
-fn copied_default(alloc: Global, kind: Scalar) -> Result<Value, AllocError> {
-    default_value(alloc, Kind::Plain(kind))?.copy(alloc)
+// Whether a column of the kind has this value where nothing is said.
+fn is_default(alloc: Global, kind: Kind, value: Seen<'_>) -> bool {
+    match default_value(alloc, kind) {
+        Ok(default) => compare_seen(default.seen(), value).is_eq(),
+        Err(_) => false,
+    }
 }
 
 #[test]
-fn kinds_have_defaults(rt: HostRuntime) -> Result<(), Fail> {
-    assert!(rt; copied_default(rt.alloc(), Scalar::Int8)? == Value::Whole(0));
-    assert!(rt; copied_default(rt.alloc(), Scalar::Bool)? == Value::Truth(false));
-    assert!(rt; copied_default(rt.alloc(), Scalar::Text)? == Value::Text(bytes(rt.alloc(), b"")?));
-    Ok(())
+fn kinds_have_defaults(rt: HostRuntime) {
+    let defaults = [
+        (Kind::Plain(Scalar::Int8), Seen::Whole(0)),
+        (Kind::Plain(Scalar::Bool), Seen::Truth(false)),
+        (Kind::Plain(Scalar::Text), Seen::Text(b"")),
+        (
+            Kind::State(AggName::UniqExact, Scalar::Text),
+            Seen::State(&[0; 8]),
+        ),
+        (Kind::State(AggName::Min, Scalar::Text), Seen::State(&[0])),
+    ];
+    for (kind, value) in defaults {
+        assert!(rt; is_default(rt.alloc(), kind, value));
+    }
 }
 
 // A value takes little memory.

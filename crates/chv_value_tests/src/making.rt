@@ -2,14 +2,15 @@
 ghost use Rattle.std.specs.Prelude.{◌≡◌, ◌∷◌, [], IfOk};
 ghost use Rattle.chv_types.specs.declared.value.Value.TheVariants.{Text, Whole};
 
-use chv_types::{Block, Bytes, Row, Value};
+use chv_text::rows_text;
+use chv_types::{Block, Bytes, Kind, Kinds, Row, Value};
 use std::alloc::{AllocError, Global};
 
 /// The list of these bytes.
 pub fn bytes(alloc: Global, bytes: &[u8]) -> Result<Bytes, AllocError>
     ensures { IfOk result (λ made. made ≡ bytes.now) }
 {
-    Ok(Bytes::of_items(Vec::from_slice(alloc, bytes)?))
+    Bytes::from_slice(alloc, bytes)
 }
 
 /// A text of these bytes.
@@ -35,6 +36,11 @@ pub fn pair(alloc: Global, first: i128, second: i128) -> Result<Row, AllocError>
     let mut row = row_of(alloc, Value::Whole(first))?;
     row.push(Value::Whole(second))?;
     Ok(row)
+}
+
+/// A block as text, of columns of these kinds.
+pub fn shown(alloc: Global, kinds: &[Kind], block: &Block) -> Result<Bytes, AllocError> {
+    rows_text(alloc, &Kinds::from_slice(alloc, kinds)?, block)
 }
 
 /// Rows of two numbers.

@@ -1,21 +1,21 @@
 // Rows in order by hand: numbers by one column and by the other, texts, and rows that are the same.
-use crate::making::{pairs, row_of, text};
+use crate::making::{pairs, row_of, shown, text};
 use chv_merge::normal;
-use chv_text::rows_text;
-use chv_types::{Block, Bytes, Places};
+use chv_types::{Block, Bytes, Kind, Places, Scalar};
 use std::alloc::{AllocError, Global};
 use std::test::Fail;
 
 // The normal form of rows under a key, as text.
-fn sorted(alloc: Global, places: &[u32], rows: Block) -> Result<Bytes, AllocError> {
-    let key = Places::of_items(Vec::from_slice(alloc, places)?);
-    rows_text(alloc, &normal(&key, rows)?)
+fn sorted(alloc: Global, kinds: &[Kind], places: &[u32], rows: Block) -> Result<Bytes, AllocError> {
+    let key = Places::from_slice(alloc, places)?;
+    shown(alloc, kinds, &normal(&key, rows)?)
 }
 
 // Four rows of numbers in their normal form.
 fn sorted_pairs(alloc: Global, places: &[u32]) -> Result<Bytes, AllocError> {
     sorted(
         alloc,
+        &[Kind::Plain(Scalar::UInt64); 2],
         places,
         pairs(alloc, &[(2, 20), (1, 30), (1, 5), (1, 30)])?,
     )
@@ -46,6 +46,7 @@ fn texts(alloc: Global, words: &[&[u8]]) -> Result<Block, AllocError> {
 #[test]
 fn a_text_stands_before_the_texts_it_begins(rt: HostRuntime) -> Result<(), Fail> {
     let rows = texts(rt.alloc(), &[b"b", b"ab", b"", b"a"])?;
-    assert!(rt; sorted(rt.alloc(), &[0], rows)?.as_slice() == b"\na\nab\nb\n".as_slice());
+    let kinds = [Kind::Plain(Scalar::Text)];
+    assert!(rt; sorted(rt.alloc(), &kinds, &[0], rows)?.as_slice() == b"\na\nab\nb\n".as_slice());
     Ok(())
 }

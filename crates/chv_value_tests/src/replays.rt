@@ -1,5 +1,5 @@
 // Commits, one behind the other.
-use chv_commit::{Commit, Ids, PartRow, Replay};
+use chv_commit::{Commit, Ids, MAX_ENTRIES, PartRow, Replay};
 use chv_sip::BlockId;
 use std::alloc::{AllocError, Global};
 use std::test::Fail;
@@ -136,6 +136,30 @@ fn merges_that_do_not_fit_change_nothing(rt: HostRuntime) -> Result<(), Fail> {
         let taken = takes_merge(&mut replay, lo, hi, part, level)?;
         assert!(rt; !taken && is_as_before(&replay), "from {lo} to {hi}");
     }
+    Ok(())
+}
+
+// Three parts, and one entry more for which room is made before.
+fn four_parts(alloc: Global) -> Result<Replay, AllocError> {
+    let mut replay = three_parts(alloc, 2)?;
+    replay.reserve(1)?;
+    if replay.entries() < MAX_ENTRIES {
+        replay.take_one(
+            30,
+            BlockId {
+                first: 6,
+                second: 7,
+            },
+        );
+    }
+    Ok(replay)
+}
+
+#[test]
+fn one_entry_is_taken_into_its_room(rt: HostRuntime) -> Result<(), Fail> {
+    let replay = four_parts(rt.alloc())?;
+    assert!(rt; replay.layout().last() == Some(&row(6, 6, 0, 11, 30)));
+    assert!(rt; are_ids(replay.ids(rt.alloc())?.as_slice(), &[5, 6]));
     Ok(())
 }
 

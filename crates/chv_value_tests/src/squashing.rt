@@ -1,15 +1,15 @@
 // The blocks of inserts.
-use crate::making::row_of;
+use crate::making::{row_of, shown};
 use chv_block::{Sizes, Squasher};
-use chv_text::rows_text;
-use chv_types::{Block, Value};
+use chv_types::{Block, Kind, Scalar, Value};
 use std::alloc::{AllocError, Global};
 use std::test::Fail;
 
 // Puts the rows of a block behind `out`, a line each, and a bar behind them.
 fn put_block(alloc: Global, out: &mut Vec<u8>, block: Option<Block>) -> Result<(), AllocError> {
     if let Some(block) = block {
-        out.extend_from_slice(rows_text(alloc, &block)?.as_slice())?;
+        let kinds = [Kind::Plain(Scalar::UInt64)];
+        out.extend_from_slice(shown(alloc, &kinds, &block)?.as_slice())?;
         out.extend_from_slice(b"|")?;
     }
     Ok(())

@@ -1,9 +1,9 @@
 use Rattle.std.proofs.Common.{rules, tests, ◌∙◌, is_some, ◌&&◌}
 use Rattle.std.proofs.lemmas.Iterator.{YieldsList-from_slice}
 use Rattle.std.proofs.lemmas.Iterator.Search.{any_from_yields_List}
-use Rattle.chv_catalog.specs.Schemas.{place_of}
+use Rattle.chv_types.specs.Names.{place_of}
 use Rattle.chv_types.specs.declared.table.Column.{Column}
-use Rattle.chv_define.specs.Definitions.{is_state}
+use Rattle.chv_catalog.specs.Checks.{is_state}
 use Rattle.chv_define.proofs.ListLemmas.{has_state-any}
 use Rattle.chv_define.proofs.checks.has_state.Goals as goal
 

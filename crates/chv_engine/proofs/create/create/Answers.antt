@@ -12,13 +12,13 @@ returns-in-Err-Refused g c =
     let S = g.W.Site in
     let store = c.args.store.now in
     let refusal = c.in-Err-Refused.refusal in
-    let is : defined store.schema.tables c.args.statement.now ≡ Err refusal =
-    subst (λ (schema : Schema). defined schema.tables c.args.statement.now ≡ Err refusal) c.schema.ensures (c.in-Err-Refused.ensures.refused refusal c.in-Err-Refused.field-0-is) in
-    refused_answers S.tells c.args.client (create_wish c.args.statement.now) refusal c.refuse.result store store (S.outside c.args.site.now) (S.outside c.refuse.new.site) c.requires.usable
-    (holds_itself store c.requires.usable.within) (create_refused store c.args.statement.now refusal is) (rw c.in-Err-Refused.refusal-is at c.refuse.ensures)
+    let is : defined store.schema.tables c.args.made.now ≡ Err refusal =
+    subst (λ (schema : Schema). defined schema.tables c.args.made.now ≡ Err refusal) c.schema.ensures (c.in-Err-Refused.ensures.refused refusal c.in-Err-Refused.field-0-is) in
+    refused_answers S.tells c.args.client (create_wish c.args.made.now) refusal c.refuse.result store store (S.outside c.args.site.now) (S.outside c.refuse.new.site) c.requires.usable
+    (holds_itself store c.requires.usable.within) (create_refused store c.args.made.now refusal is) (rw c.in-Err-Refused.refusal-is at c.refuse.ensures)
 
 pub returns-in-Err-NoMemory : goal.returns-in-Err-NoMemory
 returns-in-Err-NoMemory g c =
     let S = g.W.Site in
     let site = c.args.site.now in
-    no_memory_answers S.tells c.args.client (create_wish c.args.statement.now) c.args.store.now c.args.store.now (S.outside site) c.requires.usable.within (λ tells. g.met.W.Site.only_now site)
+    no_memory_answers S.tells c.args.client (create_wish c.args.made.now) c.args.store.now c.args.store.now (S.outside site) c.requires.usable.within (λ tells. g.met.W.Site.only_now site)

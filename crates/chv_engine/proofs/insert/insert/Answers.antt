@@ -18,7 +18,7 @@ pub returns-in-Ok : goal.returns-in-Ok
 returns-in-Ok g c =
     let S = g.W.Site in
     let store = c.args.store.now in
-    let insert = c.args.statement.now in
+    let insert = c.args.brought.now in
     let plan = c.in-Ok.ensures.planned in
     let is : planned store.schema.tables insert ≡ Ok plan.0 = subst (λ (schema : Schema). planned schema.tables insert ≡ Ok plan.0) c.schema.ensures plan.1 in
     let held : DeliversAll store.schema.tables c.as_slice.result.now plan.0 =
@@ -32,13 +32,13 @@ returns-in-Err-Refused g c =
     let S = g.W.Site in
     let store = c.args.store.now in
     let refusal = c.in-Err-Refused.refusal in
-    let is : planned store.schema.tables c.args.statement.now ≡ Err refusal =
-    subst (λ (schema : Schema). planned schema.tables c.args.statement.now ≡ Err refusal) c.schema.ensures (c.in-Err-Refused.ensures.refused refusal c.in-Err-Refused.field-0-is) in
-    refused_answers S.tells c.args.client (insert_wish c.args.statement.now) refusal c.refuse.result store store (S.outside c.args.site.now) (S.outside c.refuse.new.site) c.requires.usable
-    (holds_itself store c.requires.usable.within) (insert_refused store c.args.statement.now refusal is) (rw c.in-Err-Refused.refusal-is at c.refuse.ensures)
+    let is : planned store.schema.tables c.args.brought.now ≡ Err refusal =
+    subst (λ (schema : Schema). planned schema.tables c.args.brought.now ≡ Err refusal) c.schema.ensures (c.in-Err-Refused.ensures.refused refusal c.in-Err-Refused.field-0-is) in
+    refused_answers S.tells c.args.client (insert_wish c.args.brought.now) refusal c.refuse.result store store (S.outside c.args.site.now) (S.outside c.refuse.new.site) c.requires.usable
+    (holds_itself store c.requires.usable.within) (insert_refused store c.args.brought.now refusal is) (rw c.in-Err-Refused.refusal-is at c.refuse.ensures)
 
 pub returns-in-Err-NoMemory : goal.returns-in-Err-NoMemory
 returns-in-Err-NoMemory g c =
     let S = g.W.Site in
     let site = c.args.site.now in
-    no_memory_answers S.tells c.args.client (insert_wish c.args.statement.now) c.args.store.now c.args.store.now (S.outside site) c.requires.usable.within (λ tells. g.met.W.Site.only_now site)
+    no_memory_answers S.tells c.args.client (insert_wish c.args.brought.now) c.args.store.now c.args.store.now (S.outside site) c.requires.usable.within (λ tells. g.met.W.Site.only_now site)

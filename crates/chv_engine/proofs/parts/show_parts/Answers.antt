@@ -6,7 +6,7 @@ use Rattle.chv_ast.specs.declared.refusal.Refusal.{Refusal}
 use Rattle.chv_ast.specs.declared.refusal.Refusal.TheVariants.{UnknownTable}
 use Rattle.chv_catalog.specs.declared.schema.Schema.{Schema}
 use Rattle.chv_catalog.specs.declared.table_def.TableDef.{TableDef}
-use Rattle.chv_define.specs.Definitions.{and_then}
+use Rattle.chv_types.specs.Steps.{and_then}
 use Rattle.chv_plan.specs.Plans.{table_of}
 use Rattle.chv_history.specs.Tasks.{TellParts}
 use Rattle.chv_history.proofs.LookupLemmas.{IsNamed, table_of-known, table_of-none}
@@ -15,18 +15,18 @@ use Rattle.chv_engine.proofs.AnswerLemmas.{holds_itself, no_memory_answers, refu
 use Rattle.chv_engine.proofs.ShownLemmas.{parts_answers, told_text}
 use Rattle.chv_engine.proofs.parts.show_parts.Goals as goal
 
-pub returns-in_err-parts_text-in-Some : goal.returns-in_err-parts_text-in-Some
-returns-in_err-parts_text-in-Some g c =
+pub returns-in_err-text-in-Some : goal.returns-in_err-text-in-Some
+returns-in_err-text-in-Some g c =
     let p = err_from_is_err_and c.from_residual.result c.from_residual.ensures.1 in
     rw (p.1, p.2)
     (no_memory_answers g.W.Site.tells c.args.client (parts_wish c.args.name.now) c.args.store.now c.args.store.now (g.W.Site.outside c.args.site.now) c.requires.usable.within (λ tell. g.met.W.Site.only_now c.args.site.now))
 
-pub returns-in_ok-parts_text-in-Some : goal.returns-in_ok-parts_text-in-Some
-returns-in_ok-parts_text-in-Some g c =
+pub returns-in_ok-text-in-Some : goal.returns-in_ok-text-in-Some
+returns-in_ok-text-in-Some g c =
     let store = c.args.store.now in
     let named = subst (λ (schema : Schema). IsNamed schema.tables c.args.name.now c.in-Some.number) c.schema.ensures (table_of-known c.schema.result.now.tables c.args.name.now c.in-Some.number (sym c.table.ensures ∙ c.in-Some.is)) in
-    parts_answers g.W.Site.tells c.args.client c.args.name.now c.deref.result.now c.parts.result.now c.in-Some.number c.reply.result store (g.W.Site.outside c.args.site.now) (g.W.Site.outside c.reply.new.site) c.requires.usable named
-    (◌∙◌ {c = told_text c.args.client c.parts.result.now} c.deref.ensures.value c.in_ok-parts_text-in-Some.ensures) c.parts.ensures c.reply.ensures
+    parts_answers g.W.Site.tells c.args.client c.args.name.now c.as_slice.result.now c.parts.result.now c.in-Some.number c.reply.result store (g.W.Site.outside c.args.site.now) (g.W.Site.outside c.reply.new.site) c.requires.usable named
+    (◌∙◌ {c = told_text c.args.client c.parts.result.now} c.as_slice.ensures c.in_ok-text-in-Some.ensures) c.parts.ensures c.reply.ensures
 
 pub returns-in-None : goal.returns-in-None
 returns-in-None g c =

@@ -9,6 +9,6 @@ pub returns : goal.returns
 returns c =
     let key = c.args.key.now in
     let moved : IsPermutation c.args.block c.sort_by.new.self.items = search rules in
-    c.of_items.ensures ∙ normal_form-unique key _ _ moved
+    c.from_vec.ensures ∙ normal_form-unique key _ _ moved
     (c.in_ok-sort_by.ensures.sorted (key_below key) (key_below-IsStrictWeakOrder key)
     (always_returns_same _ _ _ (λ a r f called. search rules)))

@@ -1,5 +1,6 @@
 use Rattle.std.proofs.Common.{length, ◌+◌, ◌-◌, ◌≡◌, ◌≤◌, drop}
-use Rattle.chv_merge.specs.NormalForms.{row_cmp, values_at}
+use Rattle.chv_types.specs.Order.{row_cmp}
+use Rattle.chv_merge.specs.NormalForms.{values_at}
 use Rattle.chv_merge.proofs.normal_form.order_at.Given as goal
 
 abbrev pub invariant-loop-i : goal.invariant-loop-i

@@ -14,7 +14,7 @@ returns-in_default-clause-none c = λ is rows of same.
     let front = to_le_bytes w32 (length kinds) ++ codes_of kinds in
     let number = to_le_bytes w64 (length rows) in
     let columns = columns_spelling 0 kinds rows in
-    let head : c.deref.result.now ≡ front = c.deref.ensures.value ∙ c.in_ok-put_kinds.ensures ∙ ap (λ (l : List ℕ). l ++ to_le_bytes w32 (length kinds) ++ codes_of kinds) c.new-head.ensures.items in
+    let head : c.deref.result.now ≡ front = c.deref.ensures.value ∙ c.in_ok-put_kinds.ensures.put ∙ ap (λ (l : List ℕ). l ++ to_le_bytes w32 (length kinds) ++ codes_of kinds) c.new-head.ensures.items in
     strip_prefix_is Decides-eqb c.args.body.now c.deref.result.now None c.in_default.ensures.cases (number ++ columns)
     (same ∙ append_assoc front number columns ∙ ap (λ (l : List ℕ). l ++ (number ++ columns)) (sym head))
 
@@ -24,7 +24,7 @@ returns-then-count-values-clause-none c = λ is.
     let number = c.in-Some-split_number.count in
     let values = c.in-Some-split_number.values.now in
     let front = to_le_bytes w32 (length kinds) ++ codes_of kinds in
-    let head : c.deref.result.now ≡ front = c.deref.ensures.value ∙ c.in_ok-put_kinds.ensures ∙ ap (λ (l : List ℕ). l ++ to_le_bytes w32 (length kinds) ++ codes_of kinds) c.new-head.ensures.items in
+    let head : c.deref.result.now ≡ front = c.deref.ensures.value ∙ c.in_ok-put_kinds.ensures.put ∙ ap (λ (l : List ℕ). l ++ to_le_bytes w32 (length kinds) ++ codes_of kinds) c.new-head.ensures.items in
     let cut : c.args.body.now ≡ c.deref.result.now ++ c.in-Some.rest.now = strip_prefix_is Decides-eqb c.args.body.now c.deref.result.now (Some c.in-Some.rest) c.in-Some.ensures.cases in
     let split : c.args.body.now ≡ head_spelling kinds number ++ values =
     cut ∙ ap (λ (l : List ℕ). l ++ c.in-Some.rest.now) head ∙ ap (λ (l : List ℕ). front ++ l) c.in-Some-split_number.ensures.some ∙ sym (append_assoc front (to_le_bytes w64 number) values) in
@@ -36,6 +36,6 @@ returns-clause-head c =
     let number = c.in-Some-split_number.count in
     let values = c.in-Some-split_number.values.now in
     let front = to_le_bytes w32 (length kinds) ++ codes_of kinds in
-    let head : c.deref.result.now ≡ front = c.deref.ensures.value ∙ c.in_ok-put_kinds.ensures ∙ ap (λ (l : List ℕ). l ++ to_le_bytes w32 (length kinds) ++ codes_of kinds) c.new-head.ensures.items in
+    let head : c.deref.result.now ≡ front = c.deref.ensures.value ∙ c.in_ok-put_kinds.ensures.put ∙ ap (λ (l : List ℕ). l ++ to_le_bytes w32 (length kinds) ++ codes_of kinds) c.new-head.ensures.items in
     let cut : c.args.body.now ≡ c.deref.result.now ++ c.in-Some.rest.now = strip_prefix_is Decides-eqb c.args.body.now c.deref.result.now (Some c.in-Some.rest) c.in-Some.ensures.cases in
     cut ∙ ap (λ (l : List ℕ). l ++ c.in-Some.rest.now) head ∙ ap (λ (l : List ℕ). front ++ l) c.in-Some-split_number.ensures.some ∙ sym (append_assoc front (to_le_bytes w64 number) values)

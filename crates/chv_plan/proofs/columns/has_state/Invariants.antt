@@ -1,6 +1,6 @@
 use Rattle.std.proofs.Common.{◌≡◌, drop}
 use Rattle.std.specs.List.{list_any}
-use Rattle.chv_define.specs.Definitions.{is_state}
+use Rattle.chv_catalog.specs.Checks.{is_state}
 use Rattle.chv_plan.specs.Places.{kinds_in}
 use Rattle.chv_plan.specs.Plans.{kinds_at}
 use Rattle.chv_plan.proofs.columns.has_state.Given as goal

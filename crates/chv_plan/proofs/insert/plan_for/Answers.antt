@@ -9,28 +9,28 @@ use Rattle.chv_plan.proofs.PlanLemmas.{Brings-blocks, sizes_refused_for}
 use Rattle.chv_plan.proofs.insert.plan_for.Goals as goal
 
 pub deliveries_of-requires-clause-blocks : goal.deliveries_of-requires-clause-blocks
-deliveries_of-requires-clause-blocks c = rw (← c.as_slice.ensures) (kinds-AreBlocks _ _ c.in_ok-blocks.blocks.items c.in_ok-blocks.ensures.each)
+deliveries_of-requires-clause-blocks c = rw (← c.as_slice-2.ensures) (kinds-AreBlocks _ _ c.in_ok-blocks.blocks.items c.in_ok-blocks.ensures.each)
 
 pub deliveries_of-requires-clause-few : goal.deliveries_of-requires-clause-few
 deliveries_of-requires-clause-few c =
-    let count : length c.in_ok-blocks.blocks.items ≤ length c.args.rows.now =
-    length-AreBlocks c.as_slice.result.now (length c.args.rows.now) c.in_ok-blocks.blocks.items (rw c.as_slice-2.ensures at c.in_ok-blocks.ensures.each) in
+    let count : length c.in_ok-blocks.blocks.items ≤ length c.args.insert.now.rows =
+    length-AreBlocks c.as_slice-2.result.now (length c.args.insert.now.rows) c.in_ok-blocks.blocks.items (rw c.as_slice-rows.ensures at c.in_ok-blocks.ensures.each) in
     omega arith
 
 pub returns-clause-planned : goal.returns-clause-planned
 returns-clause-planned c =
-    let filled : filled_places c.args.def.now.columns c.args.listed.now ≡ Ok c.in_ok-places.places.items = rw c.as_slice-columns.ensures at c.in_ok-places.ensures.places in
-    let kinds_are : c.as_slice.result.now ≡ kinds_of c.args.def.now = c.as_slice.ensures ∙ c.in_ok-kinds.ensures in
+    let filled : filled_places c.args.def.now.columns c.args.insert.now.columns ≡ Ok c.in_ok-places.places = rw c.as_slice.ensures at c.in_ok-places.ensures.places in
+    let kinds_are : c.as_slice-2.result.now ≡ kinds_of c.args.def.now = c.as_slice-2.ensures ∙ c.in_ok-kinds.ensures in
     let blocks = c.in_ok-blocks.ensures.blocks in
-    Brings-blocks c.args.table c.args.def.now c.args.listed.now c.args.settings.now c.args.rows.now c.as_slice-2.result.now c.in_ok-places.places.items c.deref.result.now c.as_slice.result.now
+    Brings-blocks c.args.table c.args.def.now c.args.insert.now c.as_slice-rows.result.now c.in_ok-places.places c.as_slice-3.result.now c.as_slice-2.result.now
     c.in_ok-sizes.sizes blocks.0 c.in_ok-blocks.blocks.items c.in_ok-deliveries_of.field-0
-    filled c.in_ok-sizes.ensures.sizes.0 (sym c.is_long.ensures ∙ c.if-is_long.false) c.requires.some (omega arith) kinds_are c.deref.ensures.value c.as_slice-2.ensures
+    filled c.in_ok-sizes.ensures.sizes.0 (sym c.is_long.ensures ∙ c.if-is_long.false) c.requires.some (omega arith) kinds_are c.as_slice-3.ensures c.as_slice-rows.ensures
     blocks.1 blocks.2 c.in_ok-blocks.ensures.each c.in_ok-blocks.ensures.some c.in_ok-deliveries_of.ensures
 
 pub returns-in_err-sizes-clause-refused : goal.returns-in_err-sizes-clause-refused
 returns-in_err-sizes-clause-refused c =
     let p = err_from_is_err_and c.from_residual-in_err-sizes.result c.from_residual-in_err-sizes.ensures.1 in
-    let filled : filled_places c.args.def.now.columns c.args.listed.now ≡ Ok c.in_ok-places.places.items = rw c.as_slice-columns.ensures at c.in_ok-places.ensures.places in
+    let filled : filled_places c.args.def.now.columns c.args.insert.now.columns ≡ Ok c.in_ok-places.places = rw c.as_slice.ensures at c.in_ok-places.ensures.places in
     rw p.1 (λ refusal is.
-    let refused : sizes_for c.args.settings.now ≡ Err refusal = cc (p.2, is, c.in_err-sizes.ensures.refused) in
-    sizes_refused_for c.args.table c.args.def.now c.args.listed.now c.args.settings.now c.args.rows.now c.in_ok-places.places.items refusal filled refused)
+    let refused : sizes_for c.args.insert.now.settings ≡ Err refusal = cc (p.2, is, c.in_err-sizes.ensures.refused) in
+    sizes_refused_for c.args.table c.args.def.now c.args.insert.now c.in_ok-places.places refusal filled refused)

@@ -1,9 +1,9 @@
 use Rattle.std.proofs.Common.{append_assoc}
-use Rattle.chv_print.specs.StatementTexts.{statement_text}
+use Rattle.chv_print.specs.StatementTexts.{table_text}
 use Rattle.chv_print.proofs.create.put_table.Goals as goal
 
 pub returns : goal.returns
-unfolding statement_text
+unfolding table_text
 returns c = record {
   ok = simp (
     c.in_ok-put_table_rest.ensures.ok,

@@ -1,9 +1,9 @@
 use Rattle.std.proofs.Common.{append_assoc}
-use Rattle.chv_print.specs.StatementTexts.{statement_text}
+use Rattle.chv_print.specs.StatementTexts.{insert_text}
 use Rattle.chv_print.proofs.insert.put_insert.Goals as goal
 
 pub returns : goal.returns
-unfolding statement_text
+unfolding insert_text
 returns c = record {
   ok = simp (
     c.in_ok-put_list.ensures.ok,

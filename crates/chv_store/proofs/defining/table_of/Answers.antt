@@ -1,26 +1,21 @@
 -- The table that a canonical text makes.
-use Rattle.std.proofs.Common.{◌≡◌, true, sym, ◌∙◌}
-use Rattle.chv_define.specs.Accepted.{is_built_create}
+use Rattle.std.proofs.Common.{sym, ◌∙◌}
+use Rattle.chv_ast.specs.declared.statement.Statement.TheVariants as statement
 use Rattle.chv_store.proofs.DefineLemmas.{unbuilt_read, other_text, refused_read, accepted_read, differs, is_same}
 use Rattle.chv_store.proofs.defining.table_of.Goals as goal
 
-pub returns-then-not-is_built_create-clause-none : goal.returns-then-not-is_built_create-clause-none
-unfolding is_built_create
-returns-then-not-is_built_create-clause-none c =
-    unbuilt_read c.args.schema.now.tables c.args.text.now c.args.statement.now c.requires.read (search)
+pub returns-then-not-is_built_table-clause-none : goal.returns-then-not-is_built_table-clause-none
+returns-then-not-is_built_table-clause-none c =
+    unbuilt_read c.args.schema.now.tables c.args.text.now (statement.CreateTable c.args.made.now) c.requires.read (sym c.is_built_table.ensures ∙ c.if-not-is_built_table.true)
 
 pub returns-then-ne-clause-none : goal.returns-then-ne-clause-none
 returns-then-ne-clause-none c =
-    other_text c.args.schema.now.tables c.args.text.now c.args.statement.now c.requires.read (λ same. differs c.as_slice.result.now c.args.text.now c.ne.result c.ne.ensures c.if-ne.true (c.as_slice.ensures.value ∙ c.in_ok-canonical.ensures.text ∙ same))
-
-built : (c : goal.After-drop-canonical-in-Ok) → is_built_create c.args.statement.now ≡ true
-unfolding is_built_create
-built c = search
+    other_text c.args.schema.now.tables c.args.text.now (statement.CreateTable c.args.made.now) c.requires.read (λ same. differs c.as_slice.result.now c.args.text.now c.ne.result c.ne.ensures c.if-ne.true (c.as_slice.ensures.value ∙ c.in_ok-canonical.ensures ∙ same))
 
 pub returns-in-Ok-clause-some : goal.returns-in-Ok-clause-some
 returns-in-Ok-clause-some c =
-    accepted_read c.args.schema.now.tables c.args.text.now c.args.statement.now c.in-Ok.def c.requires.read (built c) (sym (c.as_slice.ensures.value ∙ c.in_ok-canonical.ensures.text) ∙ is_same c.as_slice.result.now c.args.text.now c.ne.result c.ne.ensures c.if-ne.false) c.in-Ok.ensures.defined
+    accepted_read c.args.schema.now.tables c.args.text.now c.args.made.now c.in-Ok.def c.requires.read (sym c.is_built_table.ensures ∙ c.if-not-is_built_table.false) (sym (c.as_slice.ensures.value ∙ c.in_ok-canonical.ensures) ∙ is_same c.as_slice.result.now c.args.text.now c.ne.result c.ne.ensures c.if-ne.false) c.in-Ok.ensures.defined
 
 pub returns-in-Err-Refused-clause-none : goal.returns-in-Err-Refused-clause-none
 returns-in-Err-Refused-clause-none c =
-    refused_read c.args.schema.now.tables c.args.text.now c.args.statement.now c.in-Err-Refused.field-0-0 c.requires.read (c.in-Err-Refused.ensures.refused c.in-Err-Refused.field-0-0 (search))
+    refused_read c.args.schema.now.tables c.args.text.now c.args.made.now c.in-Err-Refused.field-0-0 c.requires.read (c.in-Err-Refused.ensures.refused c.in-Err-Refused.field-0-0 (search))

@@ -1,14 +1,9 @@
 -- A log of one byte at most has no commit once it is begun.
-use Rattle.std.proofs.Common.{◌≡◌, List, ap, ap₂, ◌∙◌, subst, arith}
+use Rattle.std.proofs.Common.{◌≡◌, ap, ◌∙◌, subst, arith}
 use Rattle.chv_site.specs.declared.file_id.FileId.{FileId}
 use Rattle.chv_site.specs.FileIds.{table_log}
 use Rattle.chv_site.specs.Files.{settled}
-use Rattle.chv_commit.specs.Replays.{no_state}
-use Rattle.chv_commit.specs.declared.part_row.PartRow.{PartRow}
 use Rattle.chv_gate.specs.GateLog.{begun}
-use Rattle.chv_sip.specs.declared.block_id.BlockId.{BlockId}
-use Rattle.chv_window.specs.Windows.{Seen}
-use Rattle.chv_table.specs.Tables.{held_state}
 use Rattle.chv_table.specs.declared.table.Table.{Table}
 use Rattle.chv_table.proofs.TableLemmas.{HoldsBook-begun}
 use Rattle.chv_table.proofs.opening.begin_table.Goals as goal
@@ -19,8 +14,7 @@ returns-clause-book g c = λ tells short.
     let log : FileId = table_log c.args.number in
     let bytes = ((S.outside c.args.site.now).files log).bytes in
     let now = (S.outside c.begin.new.site).files in
-    let table : Table = record { number = c.args.number; engine = c.args.def.now.engine; kinds = c.in_ok-kinds.kinds; key = c.in_ok-key.key; log = c.at.result; layout = c.new-2.result; entries = 0; next_part = 8; window = c.in_ok-window.window } in
-    let state : held_state table ≡ no_state = ap₂ (λ (rows : List PartRow) (ids : List BlockId). record { layout = rows; entries = 0; next_part = 8; ids = ids }) c.new-2.ensures.items (ap (λ (w : Seen). w.ids) c.in_ok-window.ensures) in
-    HoldsBook-begun table now log bytes (c.at.ensures ∙ ap (λ (f : FileId). record { file = f; gate = 0 }) c.table_log-file.ensures) state
+    let table : Table = record { number = c.args.number; engine = c.args.def.now.engine; kinds = c.in_ok-kinds.kinds; key = c.in_ok-key.key; log = c.at.result; replay = c.in_ok-replay.replay } in
+    HoldsBook-begun table now log bytes (c.at.ensures ∙ ap (λ (f : FileId). record { file = f; gate = 0 }) c.table_log-file.ensures) c.in_ok-replay.ensures.1
     (subst (λ (f : FileId). now f ≡ settled (begun ((S.outside c.args.site.now).files f).bytes)) c.table_log-file.ensures (c.in_ok-begin.ensures.begun tells))
     (omega (arith, (g.met.W.Site.reads c.args.site.now log).no_longer, short))

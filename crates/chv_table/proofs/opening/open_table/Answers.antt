@@ -9,7 +9,7 @@ use Rattle.chv_site.specs.Files.{FileState, settled}
 use Rattle.chv_site.specs.During.{During}
 use Rattle.chv_site.specs.Outside.{bytes_in}
 use Rattle.chv_site.proofs.Moments.{started}
-use Rattle.chv_commit.specs.Replays.{Seen}
+use Rattle.chv_commit.specs.Replays.{Seen, State}
 use Rattle.chv_gate.specs.GateLog.{HasFrames, begun}
 use Rattle.chv_gate.specs.Crashes.{Leaves, LeavesFrames}
 use Rattle.chv_gate.proofs.BegunLemmas.{during_begun}
@@ -21,7 +21,7 @@ use Rattle.chv_table.specs.declared.table.Table.{Table}
 use Rattle.chv_table.specs.Tables.{held_state, IsWithin, SettlesBook}
 use Rattle.chv_table.specs.Opening.{OpeningLeft, ReadsCommit, TakesCommit, LacksCommit}
 use Rattle.chv_gate.proofs.EffectLemmas.{changes_then_reads}
-use Rattle.chv_table.proofs.OpeningLemmas.{HasTaken, took_none, took_next, took_sound, took_part, took_ids, HasRead, read_none, read_next, read_damage, HasOpened, opened_within, opened_commits, opened_placed, opened_frames, opened_book, unopened_left, opening_left, begun_long, changes_well}
+use Rattle.chv_table.proofs.OpeningLemmas.{HasTaken, took_none, took_next, took_sound, took_part, HasRead, read_none, read_next, read_damage, HasOpened, opened_within, opened_commits, opened_placed, opened_frames, opened_book, unopened_left, opening_left, begun_long, changes_well}
 use Rattle.chv_table.proofs.opening.open_table.Given.{Over}
 use Rattle.chv_table.proofs.opening.open_table.Goals.{After-begin, After-take_commit, In_ok-replayed_table-in-None}
 use Rattle.chv_table.proofs.opening.open_table.Goals as goal
@@ -65,12 +65,12 @@ commits-init g c =
     let now = S.outside c.begin.new.site in
     let log = table_log c.args.number in
     let is = c.table_log-file.ensures in
+    let window : ℕ = c.in_ok-replay.replay.window in
     record {
-      window = ap (λ (r : Seen). r.window) c.in_ok-replay.ensures;
-      ids = omega (arith, ap (λ (r : Seen). length r.state.ids) c.in_ok-replay.ensures);
-      took = subst (λ (r : Seen). HasTaken 0 r.window r.state) (sym c.in_ok-replay.ensures) (took_none c.args.def.now.window);
-      read = λ tells. subst (λ (r : Seen). HasRead 0 r.window r.state (begun (bytes_in before log))) (sym c.in_ok-replay.ensures)
-          (read_none c.args.def.now.window (begun (bytes_in before log)));
+      window = c.in_ok-replay.ensures.0;
+      took = subst (λ (s : State). HasTaken 0 window s) (sym c.in_ok-replay.ensures.1) (took_none window);
+      read = λ tells. subst (λ (s : State). HasRead 0 window s (begun (bytes_in before log))) (sym c.in_ok-replay.ensures.1)
+          (read_none window (begun (bytes_in before log)));
       begun_now = λ tells. subst (λ (f : FileId). now.files f ≡ settled (begun (bytes_in before f))) is (c.in_ok-begin.ensures.begun tells);
       left = begin_left g (goal.at.commits-init g c).After-begin;
       keeps = subst (λ (f : FileId). ChangesOnly S.tells ⊥ f before now) is (changes_well S.tells _ c.table_log-file.result before now false≢true c.in_ok-begin.ensures.keeps);
@@ -173,7 +173,6 @@ commits-preserved g c =
     let took = took_one g c in
     record {
       window = same ∙ so_far.window;
-      ids = subst (λ (n : ℕ). length new.state.ids ≤ n) (sym same) (took_ids c.commits.gate old.window old.state next new.state took so_far.ids);
       took = subst (λ (n : ℕ). HasTaken next n new.state) (sym same) (took_next c.commits.gate old.window old.state next new.state so_far.took took);
       read = λ tells.
           let read = subst (λ (read : Option ℕ). ReadsCommit c.commits.gate old.window old.state (begun file) read new.state) c.in-Some.is

@@ -1,5 +1,5 @@
 -- The commits so far are taken, and they are those that were read.
-use Rattle.std.proofs.Common.{◌≡◌, ◌+◌, ◌-◌, ◌*◌, ◌≤◌, List, ℕ, length}
+use Rattle.std.proofs.Common.{◌≡◌, ◌+◌, ◌-◌, ◌*◌, List, ℕ}
 use Rattle.chv_site.specs.Effects.{ChangesOnly}
 use Rattle.chv_site.specs.FileIds.{table_log}
 use Rattle.chv_site.specs.Files.{settled}
@@ -18,7 +18,6 @@ invariant-commits g l =
     let log = table_log l.number in
     record {
       window : l.replay.window ≡ l.def.window;
-      ids : length l.replay.state.ids ≤ l.replay.window;
       took : HasTaken l.gate l.replay.window l.replay.state;
       read : S.tells → HasRead l.gate l.replay.window l.replay.state (begun (bytes_in before log));
       begun_now : S.tells → now.files log ≡ settled (begun (bytes_in before log));

@@ -1,8 +1,6 @@
-use Rattle.std.proofs.Common.{◌≡◌, ◌++◌, take}
-use Rattle.std.specs.Prelude.{codes}
-use Rattle.std.specs.List.{flat_map}
-use Rattle.chv_text.specs.Rows.{value_text}
+use Rattle.std.proofs.Common.{◌≡◌, ◌++◌, drop}
+use Rattle.chv_text.proofs.RowLemmas.{behind_tabs}
 use Rattle.chv_text.proofs.rows.put_behind_tabs.Given as goal
 
-abbrev pub invariant-loop-value : goal.invariant-loop-value
-invariant-loop-value l = l.out.items ≡ l.fn.out.items ++ flat_map (λ value. codes "\t" ++ value_text value) (take l.value-index l.values)
+abbrev pub invariant-loop-i : goal.invariant-loop-i
+invariant-loop-i l = l.out.items ++ behind_tabs (drop l.i l.kinds) (drop l.i l.values) ≡ l.fn.out.items ++ behind_tabs l.kinds l.values

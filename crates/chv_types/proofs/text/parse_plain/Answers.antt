@@ -6,12 +6,12 @@ use Rattle.chv_types.proofs.text.parse_plain.Goals as goal
 
 pub returns-in-Some : goal.returns-in-Some
 returns-in-Some c =
-    let reads = plain c.args.low c.args.high c.args.digits.now c.small_number.result c.requires c.small_number.ensures in
+    let reads = plain c.args.low c.args.high c.args.digits.now c.whole_number.result c.requires c.whole_number.ensures in
     let low : SFits w128 c.args.low = c.ranges.low in
     let high : SFits w128 c.args.high = c.ranges.high in
     rw (reads, c.in-Some.is) (simp to_z-of_z at c.plain_in_range.ensures)
 
 pub returns-in-None : goal.returns-in-None
 returns-in-None c =
-    let reads = plain c.args.low c.args.high c.args.digits.now c.small_number.result c.requires c.small_number.ensures in
+    let reads = plain c.args.low c.args.high c.args.digits.now c.whole_number.result c.requires c.whole_number.ensures in
     rw (reads, c.in-None.is) refl

@@ -1,7 +1,7 @@
 use Rattle.std.proofs.Common.{◌∙◌, ap, arith}
 use Rattle.std.proofs.lemmas.Result.{IfOk-weaker}
 use Rattle.chv_catalog.specs.Names.{Named, texts_of}
-use Rattle.chv_catalog.specs.Schemas.{place_of}
+use Rattle.chv_types.specs.Names.{place_of}
 use Rattle.chv_catalog.proofs.NameLemmas.{texts_of-insert_key, from_success}
 use Rattle.chv_catalog.proofs.names.Names.add.Goals as goal
 

@@ -1,7 +1,8 @@
 -- A table more: its own log is begun, and then the catalog has its text.
 use Rattle.std.proofs.Common.{◌≡◌, ℕ, ◌+◌, ◌<◌, ◌≤◌, None, List, [], ◌∷◌, ◌++◌, length, refl, sym, ap, subst, ◌∙◌, arith}
 use Rattle.std.proofs.lemmas.Result.{err_from_is_err_and}
-use Rattle.chv_catalog.specs.Schemas.{names_of, place_of}
+use Rattle.chv_ast.specs.declared.statement.Statement.TheVariants as statement
+use Rattle.chv_catalog.specs.Schemas.{names_of}
 use Rattle.chv_catalog.specs.declared.table_def.TableDef.{TableDef}
 use Rattle.chv_gate.specs.GateLog.{IsReady}
 use Rattle.chv_part.specs.Books.{no_book}
@@ -9,6 +10,7 @@ use Rattle.chv_print.specs.StatementTexts.{statement_text}
 use Rattle.chv_site.specs.FileIds.{table_log}
 use Rattle.chv_site.specs.declared.file_id.FileId.{FileId}
 use Rattle.chv_table.proofs.TableLemmas.{holds_commits_kept}
+use Rattle.chv_types.specs.Names.{place_of}
 use Rattle.chv_store.specs.declared.store.Store.{Store}
 use Rattle.chv_store.proofs.CreateLemmas.{catalog_ready, log_during, log_most, made_during, none_during, turns_err}
 use Rattle.chv_store.proofs.MadeLemmas.{behind_same, catalog_same, is_made, made_books, made_logs, made_placed, made_within, new_commits, tables_kept}
@@ -17,22 +19,22 @@ use Rattle.chv_store.proofs.StoreLemmas.{book_kept, placed_kept}
 use Rattle.chv_store.proofs.store.Store.create.Goals as goal
 
 pub spell-requires-clause-short : goal.spell-requires-clause-short
-spell-requires-clause-short g c = makes_short c.args.self.now.schema.tables c.args.create.now c.args.def c.requires.makes
+spell-requires-clause-short g c = makes_short c.args.self.now.schema.tables (statement.CreateTable c.args.create.now) c.args.def c.requires.makes
 
 pub spell-requires-clause-some : goal.spell-requires-clause-some
-spell-requires-clause-some g c = makes_some c.args.self.now.schema.tables c.args.create.now c.args.def c.requires.makes
+spell-requires-clause-some g c = makes_some c.args.self.now.schema.tables (statement.CreateTable c.args.create.now) c.args.def c.requires.makes
 
 pub begin_table-requires : goal.begin_table-requires
-begin_table-requires g c = record { columns = makes_columns c.args.self.now.schema.tables c.args.create.now c.args.def c.requires.makes }
+begin_table-requires g c = record { columns = makes_columns c.args.self.now.schema.tables (statement.CreateTable c.args.create.now) c.args.def c.requires.makes }
 
 pub accept-requires-clause-free : goal.accept-requires-clause-free
 accept-requires-clause-free g c =
     subst (λ (defs : List TableDef). place_of c.args.def.name (names_of defs) ≡ None) (sym c.in_ok-reserve_one.ensures.tables)
-    (makes_free c.args.self.now.schema.tables c.args.create.now c.args.def c.requires.makes)
+    (makes_free c.args.self.now.schema.tables (statement.CreateTable c.args.create.now) c.args.def c.requires.makes)
 
 pub accept-requires-clause-few : goal.accept-requires-clause-few
 accept-requires-clause-few g c =
-    omega (arith, ap length c.in_ok-reserve_one.ensures.tables, makes_few c.args.self.now.schema.tables c.args.create.now c.args.def c.requires.makes)
+    omega (arith, ap length c.in_ok-reserve_one.ensures.tables, makes_few c.args.self.now.schema.tables (statement.CreateTable c.args.create.now) c.args.def c.requires.makes)
 
 -- before the first call on the disk
 pub returns-in_err-frame-clause-created : goal.returns-in_err-frame-clause-created
@@ -41,7 +43,7 @@ returns-in_err-frame-clause-created g c = λ tells payloads books held.
     let site = c.args.site.now in
     let p = err_from_is_err_and c.from_residual.result c.from_residual.ensures.1 in
     turns_err _ p.0 _ _ _ _ _ p.1
-    (none_during self (g.W.Site.outside site) payloads books (statement_text c.args.create.now) c.args.def (length self.schema.tables + 1) c.requires.usable.within held refl (g.met.W.Site.only_now site))
+    (none_during self (g.W.Site.outside site) payloads books (statement_text (statement.CreateTable c.args.create.now)) c.args.def (length self.schema.tables + 1) c.requires.usable.within held refl (g.met.W.Site.only_now site))
 
 pub returns-in_err-reserve_one-clause-created : goal.returns-in_err-reserve_one-clause-created
 returns-in_err-reserve_one-clause-created g c = λ tells payloads books held.
@@ -49,7 +51,7 @@ returns-in_err-reserve_one-clause-created g c = λ tells payloads books held.
     let site = c.args.site.now in
     let p = err_from_is_err_and c.from_residual-in_err-reserve_one.result c.from_residual-in_err-reserve_one.ensures.1 in
     turns_err _ p.0 _ _ _ _ _ p.1
-    (none_during self (g.W.Site.outside site) payloads books (statement_text c.args.create.now) c.args.def (length self.schema.tables + 1) c.requires.usable.within held refl (g.met.W.Site.only_now site))
+    (none_during self (g.W.Site.outside site) payloads books (statement_text (statement.CreateTable c.args.create.now)) c.args.def (length self.schema.tables + 1) c.requires.usable.within held refl (g.met.W.Site.only_now site))
 
 pub returns-in_err-reserve-clause-created : goal.returns-in_err-reserve-clause-created
 returns-in_err-reserve-clause-created g c = λ tells payloads books held.
@@ -57,7 +59,7 @@ returns-in_err-reserve-clause-created g c = λ tells payloads books held.
     let site = c.args.site.now in
     let p = err_from_is_err_and c.from_residual-in_err-reserve.result c.from_residual-in_err-reserve.ensures.1 in
     turns_err _ p.0 _ _ _ _ _ p.1
-    (none_during self (g.W.Site.outside site) payloads books (statement_text c.args.create.now) c.args.def (length self.schema.tables + 1) c.requires.usable.within held refl (g.met.W.Site.only_now site))
+    (none_during self (g.W.Site.outside site) payloads books (statement_text (statement.CreateTable c.args.create.now)) c.args.def (length self.schema.tables + 1) c.requires.usable.within held refl (g.met.W.Site.only_now site))
 
 -- the table's log is begun
 pub returns-in_err-table-clause-created : goal.returns-in_err-table-clause-created
@@ -67,7 +69,7 @@ returns-in_err-table-clause-created g c = λ tells payloads books held.
     let is : number ≡ length self.schema.tables + 1 = ap (λ (n : ℕ). n + 1) (c.tables-number.ensures.count ∙ ap length c.in_ok-reserve_one.ensures.tables) in
     let p = err_from_is_err_and c.from_residual-in_err-table.result c.from_residual-in_err-table.ensures.1 in
     turns_err _ p.0 _ _ _ _ _ p.1
-    (log_during self (g.W.Site.outside c.args.site.now) payloads books (statement_text c.args.create.now) c.args.def number c.requires.usable.within held is (g.W.Site.outside c.begin_table.new.site) (c.in_err-table.ensures.during tells))
+    (log_during self (g.W.Site.outside c.args.site.now) payloads books (statement_text (statement.CreateTable c.args.create.now)) c.args.def number c.requires.usable.within held is (g.W.Site.outside c.begin_table.new.site) (c.in_err-table.ensures.during tells))
 
 -- and then its text is appended, whole or not
 pub returns-in_err-append-clause-created : goal.returns-in_err-append-clause-created
@@ -79,9 +81,9 @@ returns-in_err-append-clause-created g c = λ tells payloads books held.
     let begun = c.in_ok-table.ensures in
     let p = err_from_is_err_and c.from_residual-in_err-append.result c.from_residual-in_err-append.ensures.1 in
     turns_err _ p.0 _ _ _ _ _ p.1
-    (made_during self (g.W.Site.outside site) payloads books (statement_text c.args.create.now) c.args.def number c.requires.usable.within held is (g.W.Site.outside c.begin_table.new.site) (g.W.Site.outside c.append.new.site) c.deref.result.now
+    (made_during self (g.W.Site.outside site) payloads books (statement_text (statement.CreateTable c.args.create.now)) c.args.def number c.requires.usable.within held is (g.W.Site.outside c.begin_table.new.site) (g.W.Site.outside c.append.new.site) c.deref.result.now
     (begun.keeps.others tells) (begun.begun tells) (g.met.W.Site.reads site (table_log number)) (begun.keeps.said tells)
-    (makes_payload self.schema.tables c.args.create.now c.args.def c.requires.makes) (c.deref.ensures.value ∙ c.in_ok-frame.ensures) (begun.during tells) (c.in_err-append.ensures.during tells))
+    (makes_payload self.schema.tables (statement.CreateTable c.args.create.now) c.args.def c.requires.makes) (c.deref.ensures.value ∙ c.in_ok-frame.ensures) (begun.during tells) (c.in_err-append.ensures.during tells))
 
 pub returns-in-Ok-clause-created : goal.returns-in-Ok-clause-created
 returns-in-Ok-clause-created g c = λ tells payloads books held.
@@ -89,7 +91,7 @@ returns-in-Ok-clause-created g c = λ tells payloads books held.
     let site = c.args.site.now in
     let def : TableDef = c.args.def in
     let table = c.in_ok-table.table in
-    let text = statement_text c.args.create.now in
+    let text = statement_text (statement.CreateTable c.args.create.now) in
     let old = g.W.Site.outside site in
     let mid = g.W.Site.outside c.begin_table.new.site in
     let last = g.W.Site.outside c.append.new.site in
@@ -98,7 +100,7 @@ returns-in-Ok-clause-created g c = λ tells payloads books held.
     let is : number ≡ length self.schema.tables + 1 = ap (λ (n : ℕ). n + 1) (c.tables-number.ensures.count ∙ ap length c.in_ok-reserve_one.ensures.tables) in
     let begun = c.in_ok-table.ensures in
     let appended = c.in_ok-append.ensures in
-    let sized = makes_payload self.schema.tables c.args.create.now def c.requires.makes in
+    let sized = makes_payload self.schema.tables (statement.CreateTable c.args.create.now) def c.requires.makes in
     let spelled = c.deref.ensures.value ∙ c.in_ok-frame.ensures in
     let new : Store = record { catalog = c.append.new.self; schema = c.accept.new.self; tables = c.push.new.self } in
     let made = is_made self number def table c.reserve_one.new.self c.reserve.new.self new within is begun.fresh appended.file c.in_ok-reserve_one.ensures.tables c.accept.ensures c.in_ok-reserve.ensures.items c.in-Ok.ensures.items in
@@ -118,7 +120,7 @@ returns-in-Ok-clause-logged g c = λ tells payloads commits holds most.
     let site = c.args.site.now in
     let def : TableDef = c.args.def in
     let table = c.in_ok-table.table in
-    let text = statement_text c.args.create.now in
+    let text = statement_text (statement.CreateTable c.args.create.now) in
     let before = (g.W.Site.outside site).files in
     let between = (g.W.Site.outside c.begin_table.new.site).files in
     let behind = (g.W.Site.outside c.append.new.site).files in
@@ -135,7 +137,7 @@ returns-in-Ok-clause-logged g c = λ tells payloads commits holds most.
     let same = behind_same self number within before between behind (begun.keeps.others tells) (appended.keeps.others tells) in
     let empty = holds_commits_kept table between behind [] (same table.log.file (omega (arith, is, ap (λ (f : FileId). f.table) at_log))) none in
     let ready = subst (IsReady self.catalog.gate payloads) (sym (catalog_same self number within before between behind (begun.keeps.others tells) (appended.keeps.others tells) (omega (arith, is)))) holds.catalog in
-    let ends = appended.appended tells payloads text ready (makes_payload self.schema.tables c.args.create.now def c.requires.makes) (c.deref.ensures.value ∙ c.in_ok-frame.ensures) in
+    let ends = appended.appended tells payloads text ready (makes_payload self.schema.tables (statement.CreateTable c.args.create.now) def c.requires.makes) (c.deref.ensures.value ∙ c.in_ok-frame.ensures) in
     made_logs self number def table new made before behind (tables_kept self number within before between behind (begun.keeps.others tells) (appended.keeps.others tells)) payloads (payloads ++ text ∷ []) commits holds
     (subst (λ (f : FileId). IsReady new.catalog.gate (payloads ++ text ∷ []) (behind f)) (sym made.file) ends) empty
 
@@ -155,8 +157,8 @@ returns-in-Ok-clause-usable g c =
     let new : Store = record { catalog = c.append.new.self; schema = c.accept.new.self; tables = c.push.new.self } in
     let made = is_made self number def table c.reserve_one.new.self c.reserve.new.self new within is begun.fresh appended.file c.in_ok-reserve_one.ensures.tables c.accept.ensures c.in_ok-reserve.ensures.items c.in-Ok.ensures.items in
     record {
-      within = made_within self number def table new made (makes_few self.schema.tables c.args.create.now def c.requires.makes)
-          (omega (arith, appended.gate, ap length (c.deref.ensures.value ∙ c.in_ok-frame.ensures), makes_frame self.schema.tables c.args.create.now def c.requires.makes));
+      within = made_within self number def table new made (makes_few self.schema.tables (statement.CreateTable c.args.create.now) def c.requires.makes)
+          (omega (arith, appended.gate, ap length (c.deref.ensures.value ∙ c.in_ok-frame.ensures), makes_frame self.schema.tables (statement.CreateTable c.args.create.now) def c.requires.makes));
       placed = λ tells.
           let same = behind_same self number within before between behind (begun.keeps.others tells) (appended.keeps.others tells) in
           made_placed self number def table new made before behind (tables_kept self number within before between behind (begun.keeps.others tells) (appended.keeps.others tells)) (c.requires.usable.placed tells)

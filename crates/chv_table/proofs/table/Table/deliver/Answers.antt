@@ -16,8 +16,8 @@ pub returns-then-has-clause-turned : goal.returns-then-has-clause-turned
 returns-then-has-clause-turned g c = λ tells book entry brings held.
     let table = c.args.self.now in
     let old = g.W.Site.outside c.args.site.now in
-    let next = arrived table.window.size entry book in
-    let same = arrived-recent table.window.size entry book (recent_held table old.files book entry c.args.id held brings.id_is (c.has.ensures.0 c.if-has.true)) in
+    let next = arrived table.replay.window entry book in
+    let same = arrived-recent table.replay.window entry book (recent_held table old.files book entry c.args.id held brings.id_is (c.has.ensures.0 c.if-has.true)) in
     record {
       done = subst (λ (b : Book). HoldsBook table old.files b) (sym same) held;
       during = started old (DeliveryLeft table book next old.files old.said)
@@ -27,10 +27,10 @@ returns-then-has-clause-turned g c = λ tells book entry brings held.
 -- what arrives is appended where its id is not held
 module _ (g : Over) (c : After-write g) where
   pub is_appended : (book : Book) (entry : Entry) → Brings c.args.self.now c.args.id c.args.rows c.args.encoded.now entry → HoldsBook c.args.self.now (g.W.Site.outside c.args.site.now).files book
-      → arrived c.args.self.now.window.size entry book ≡ appended entry book
+      → arrived c.args.self.now.replay.window entry book ≡ appended entry book
   is_appended book entry brings held =
       let table = c.args.self.now in
-      arrived-new table.window.size entry book
+      arrived-new table.replay.window entry book
       (recent_lacks table (g.W.Site.outside c.args.site.now).files book entry c.args.id held brings.id_is (λ has. absurd (false≢true (sym c.if-has.false ∙ c.has.ensures.1 has))))
 
 pub returns-clause-turned : goal.returns-clause-turned

@@ -13,7 +13,7 @@ invariant-loop-row g l =
     let S = g.W.Site in
     let before = S.outside l.initial.site in
     record {
-      rows : S.tells → (book : Book) → HoldsBook l.self before.files book → l.rows.items ≡ rows_of_parts (held_form l.self) book (take l.row-index l.self.layout.items);
-      whole : S.tells → ArePartsWhole l.self.number (held_form l.self) (take l.row-index l.self.layout.items) (bytes_in before);
+      rows : S.tells → (book : Book) → HoldsBook l.self before.files book → l.rows.items ≡ rows_of_parts (held_form l.self) book (take l.row-index l.self.replay.state.layout);
+      whole : S.tells → ArePartsWhole l.self.number (held_form l.self) (take l.row-index l.self.replay.state.layout) (bytes_in before);
       keeps : OnlyReads S.tells ⊥ before (S.outside l.site);
     }

@@ -15,5 +15,5 @@ returns-in_err-rows-clause-damaged g c = λ tells damage is.
 pub returns-clause-rows : goal.returns-clause-rows
 returns-clause-rows g c = λ tells book held.
     let table = c.args.self.now in
-    rw (c.in_ok-normal.ensures, c.of_items.ensures, c.in_ok-rows.ensures.rows tells book held)
-    (rows_of_parts-normal_form (held_form table) book table.layout.items held.lawful.runs held.describes.layout)
+    rw (c.in_ok-normal.ensures, c.from_vec.ensures, c.in_ok-rows.ensures.rows tells book held)
+    (rows_of_parts-normal_form (held_form table) book table.replay.state.layout held.lawful.runs held.describes.layout)
