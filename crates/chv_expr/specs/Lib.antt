@@ -1,0 +1,4 @@
+pub mod Bindings
+pub mod Kinds
+pub mod Terms
+pub mod Values

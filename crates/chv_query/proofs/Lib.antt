@@ -1,0 +1,9 @@
+pub mod NameLemmas
+pub mod OutputLemmas
+pub mod QueryLemmas
+pub mod ResultLemmas
+pub mod RunLemmas
+pub mod ShownLemmas
+pub mod SortLemmas
+pub mod TableLemmas
+pub mod WholeRowLemmas

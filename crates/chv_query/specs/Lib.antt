@@ -1,0 +1,5 @@
+pub mod Bound
+pub mod Queries
+pub mod Results
+pub mod Shown
+pub mod Tables

@@ -1,0 +1,44 @@
+// Queries that are bound to their tables.
+ghost use Rattle.chv_query.specs.Bound.{AnswersAs, IsQuery};
+ghost use Rattle.chv_query.specs.Queries.{asked, asked_of};
+
+use crate::Query;
+use crate::order::{bind_limit, bind_order};
+use crate::output::{bind_filter, bind_outputs};
+use chv_ast::{Refusal, Select};
+use chv_catalog::{Schema, StatementFault, TableDef};
+use std::alloc::Global;
+
+/// The query of a SELECT without grouping, or the first check that refuses it: FROM, WHERE, the items, ORDER BY and LIMIT, each
+/// from left to right.
+pub fn bind(alloc: Global, schema: &Schema, select: &Select) -> Result<Query, StatementFault>
+    ensures { AnswersAs IsQuery (asked schema.now.tables select.now) result }
+{
+    match schema.table(select.table.as_slice()) {
+        Some(table) => bind_to(alloc, table, schema.table_def(table), select),
+        None => Err(StatementFault::Refused(Refusal::UnknownTable)),
+    }
+}
+
+// The query of a SELECT to a table of this number.
+fn bind_to(
+    alloc: Global,
+    table: u32,
+    def: &TableDef,
+    select: &Select,
+) -> Result<Query, StatementFault>
+    ensures { AnswersAs IsQuery (asked_of table def.now select.now) result }
+{
+    let filter = bind_filter(alloc, &def.columns, select.filter.as_ref())?;
+    let found = bind_outputs(alloc, &def.columns, select.items.as_slice())?;
+    let order = bind_order(alloc, &found.columns, select.order.as_slice())?;
+    let limit = bind_limit(select.limit.as_ref())?;
+    Ok(Query {
+        table,
+        columns: found.columns,
+        filter,
+        outputs: found.bounds,
+        order,
+        limit,
+    })
+}

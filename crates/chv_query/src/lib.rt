@@ -1,0 +1,14 @@
+//! Queries: what a SELECT asks of a table, bound to its columns, and what it gives over rows.
+#![tactic(auto)]
+
+mod binding;
+mod fault;
+mod order;
+mod output;
+mod query;
+mod run;
+
+pub use binding::bind;
+pub use fault::BlockFault;
+pub use query::{Query, Sort};
+pub use run::{run_block, run_rows};

@@ -1,0 +1,56 @@
+// Queries.
+ghost use Rattle.std.specs.Prelude.{◌≡◌};
+
+use chv_expr::Bound;
+use chv_types::Columns;
+use sqlite_items::Items;
+
+/// A column to sort by.
+#[derive(Clone, Copy, Debug, PartialEq, Eq)]
+pub struct Sort {
+    /// The place of the output column, from 0.
+    pub place: usize,
+    /// Descending.
+    pub down: bool,
+}
+
+/// A query that is bound to its table.
+#[derive(Drop)]
+pub struct Query {
+    pub(crate) table: u32,
+    pub(crate) columns: Columns,
+    pub(crate) filter: Option<Bound>,
+    pub(crate) outputs: Items<Bound>,
+    pub(crate) order: Items<Sort>,
+    pub(crate) limit: Option<u64>,
+}
+
+impl Query {
+    /// The number of its table, from 1.
+    pub fn table(&self) -> u32
+        ensures { result ≡ self.now.table }
+    {
+        self.table
+    }
+
+    /// The names and kinds of its output columns.
+    pub fn columns(&self) -> &Columns
+        ensures { result.now ≡ self.now.columns }
+    {
+        &self.columns
+    }
+
+    /// The columns to sort by, the most telling first.
+    pub fn order(&self) -> &[Sort]
+        ensures { result.now ≡ self.now.order }
+    {
+        self.order.as_slice()
+    }
+
+    /// How many rows are shown at most.
+    pub fn limit(&self) -> Option<u64>
+        ensures { result ≡ self.now.limit }
+    {
+        self.limit
+    }
+}
