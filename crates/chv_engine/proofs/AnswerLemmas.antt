@@ -30,7 +30,7 @@ use Rattle.chv_text.specs.Replies.{refused_line}
 use Rattle.chv_history.specs.Crashes.{IsLeftBy}
 use Rattle.chv_history.specs.Events.{Event, Moment, Plan, Replied}
 use Rattle.chv_history.specs.Histories.{Stands, book_of}
-use Rattle.chv_history.specs.Kept.{Kept, is_refusal, kept_task}
+use Rattle.chv_history.specs.Kept.{Kept, IsRefused, kept_task}
 use Rattle.chv_history.specs.Runs.{answer_events, entries_in}
 use Rattle.chv_history.specs.Tasks.{Task}
 use Rattle.chv_history.proofs.EntryLemmas.{length-entries}
@@ -171,7 +171,7 @@ moment_still store old new before events m within at during =
 
 -- what is asked for changes nothing, and a reply says it, or refuses it
 module _ (tells : Type 0) (client : ℕ) (wish : Wish) (asked : Result Task Refusal) (text : List ℕ) (mark : Bool) (result : Result Bool RunFault) (was is : Store) (old new : Outside)
-    (usable : IsUsable tells was old) (same : HoldsSame was is) (asks : Asks wish was asked) (keeps : (kept : Kept) → kept_task asked kept ≡ kept) (marks : is_refusal asked ≡ mark)
+    (usable : IsUsable tells was old) (same : HoldsSame was is) (asks : Asks wish was asked) (keeps : (kept : Kept) → kept_task asked kept ≡ kept) (marks : IsRefused asked mark)
     (says : tells → (before : List ℕ) (m : Moment) → IsAt was old before m → answer_events client asked m.history ≡ Replied text [] mark ∷ [])
     (unmet : tells → (damage : Damage) → MeetsDamage wish was (bytes_in old) damage → ⊥) (replies : Replies tells text mark result old new) where
   events : tells → (before : List ℕ) (m : Moment) → IsAt was old before m → wish_events client wish m.history ≡ Replied text [] mark ∷ []
@@ -184,13 +184,13 @@ module _ (tells : Type 0) (client : ℕ) (wish : Wish) (asked : Result Task Refu
       subst (λ (es : List Event). AnswersAs is new before mark es m) (sym (events tell before m at)) (moment_replied was is old new before text [] mark m same at (replies.files tell) added))
       (replies.said tell) replies.answer
 
-  kept_so : IfOk result (λ refused. (kept : Kept) → HoldsKept was kept → HoldsKept is (kept_task (wish_in wish kept) kept) × (is_refusal (wish_in wish kept) ≡ refused))
+  kept_so : IfOk result (λ refused. (kept : Kept) → HoldsKept was kept → HoldsKept is (kept_task (wish_in wish kept) kept) × IsRefused (wish_in wish kept) refused)
   kept_so =
-      IfOk-weaker result (λ answer. answer ≡ mark) (λ refused. (kept : Kept) → HoldsKept was kept → HoldsKept is (kept_task (wish_in wish kept) kept) × (is_refusal (wish_in wish kept) ≡ refused))
+      IfOk-weaker result (λ answer. answer ≡ mark) (λ refused. (kept : Kept) → HoldsKept was kept → HoldsKept is (kept_task (wish_in wish kept) kept) × IsRefused (wish_in wish kept) refused)
       (λ refused is_mark kept has.
       let so : wish_in wish kept ≡ asked = asked_kept client wish was asked asks kept has in
       let still : kept_task (wish_in wish kept) kept ≡ kept = ap (λ (a : Result Task Refusal). kept_task a kept) so ∙ keeps kept in
-      (subst (HoldsKept is) (sym still) (same_kept was is kept same has), ap is_refusal so ∙ marks ∙ sym is_mark))
+      (subst (HoldsKept is) (sym still) (same_kept was is kept same has), subst (λ (a : Result Task Refusal). IsRefused a refused) (sym so) (subst (IsRefused asked) (sym is_mark) marks)))
       replies.answer
 
   pub replied_answers : Answers tells client wish result was is old new
@@ -304,7 +304,7 @@ module _ (tells : Type 0) (client : ℕ) (one two : Wish) (result : Result Bool 
 
   same_met : (damage : Damage) → HasMet one damage was is old new → HasMet two damage was is old new
   same_met damage met = record {
-    meets = record { table = met.meets.table; def = met.meets.def; asks = sym (same (entries_held was)) ∙ met.meets.asks; is = met.meets.is };
+    meets = record { query = met.meets.query; asks = sym (same (entries_held was)) ∙ met.meets.asks; is = met.meets.is };
     same = met.same;
     files = met.files;
     said = met.said;
@@ -318,15 +318,15 @@ module _ (tells : Type 0) (client : ℕ) (one two : Wish) (result : Result Bool 
         (λ refused so before m at. subst (λ (es : List Event). AnswersAs is new before refused es m) (same_events before m at) (so before m at)) (answers.answered tell);
     during = λ tell before m at. subst (λ (es : List Event). During old new (IsLeftBy es before m)) (same_events before m at) (answers.during tell before m at);
     kept =
-        IfOk-weaker result (λ refused. (kept : Kept) → HoldsKept was kept → HoldsKept is (kept_task (wish_in one kept) kept) × (is_refusal (wish_in one kept) ≡ refused))
-        (λ refused. (kept : Kept) → HoldsKept was kept → HoldsKept is (kept_task (wish_in two kept) kept) × (is_refusal (wish_in two kept) ≡ refused))
+        IfOk-weaker result (λ refused. (kept : Kept) → HoldsKept was kept → HoldsKept is (kept_task (wish_in one kept) kept) × IsRefused (wish_in one kept) refused)
+        (λ refused. (kept : Kept) → HoldsKept was kept → HoldsKept is (kept_task (wish_in two kept) kept) × IsRefused (wish_in two kept) refused)
         (λ refused so kept has.
-        subst (λ (a : Result Task Refusal). HoldsKept is (kept_task a kept) × (is_refusal a ≡ refused)) (beside kept.tables (λ table. (kept.states table).entries) has.tables) (so kept has)) answers.kept;
+        subst (λ (a : Result Task Refusal). HoldsKept is (kept_task a kept) × IsRefused a refused) (beside kept.tables (λ table. (kept.states table).entries) has.tables) (so kept has)) answers.kept;
     refused = answers.refused;
     logged = answers.logged;
     usable = answers.usable;
     damaged = λ tell damage err. same_met damage (answers.damaged tell damage err);
     met = λ tell damage meets.
-        answers.met tell damage (record { table = meets.table; def = meets.def; asks = same (entries_held was) ∙ meets.asks; is = meets.is });
+        answers.met tell damage (record { query = meets.query; asks = same (entries_held was) ∙ meets.asks; is = meets.is });
     counts = answers.counts;
   }

@@ -70,7 +70,7 @@ create_refused store create refuses is entries agree = ap (λ (r : Result TableD
 
 -- a definition of a table asks for no rows
 make_tells_none : (accepted : Accepted) → TellsNone (Make accepted)
-make_tells_none accepted table def same = cc same
+make_tells_none accepted query same = cc same
 
 -- one state more that is the default is read as the default
 get_or-default : {X : Type 0} (xs : List X) (i : ℕ) (d : X) → get_or (xs ++ d ∷ []) i d ≡ get_or xs i d

@@ -4,8 +4,8 @@ use Rattle.std.specs.Prelude.{Result}
 use Rattle.std.proofs.lemmas.Bool.{false≢true}
 use Rattle.std.proofs.lemmas.Result.{IfOk-weaker}
 use Rattle.chv_ast.specs.declared.refusal.Refusal.{Refusal}
-use Rattle.chv_catalog.specs.declared.table_def.TableDef.{TableDef}
 use Rattle.chv_part.specs.declared.damage.Damage.{Damage}
+use Rattle.chv_query.specs.Queries.{Asked}
 use Rattle.chv_site.specs.During.{During}
 use Rattle.chv_site.specs.Faults.{HasRisen}
 use Rattle.chv_site.specs.Files.{KeepsFiles}
@@ -19,9 +19,9 @@ use Rattle.chv_table.specs.declared.fault.PutFault.TheVariants as put
 use Rattle.chv_history.specs.Crashes.{IsLeftBy}
 use Rattle.chv_history.specs.Events.{Event, Moment, Plan, Replied, behind}
 use Rattle.chv_history.specs.Histories.{History}
-use Rattle.chv_history.specs.Kept.{Kept, is_refusal, kept_task}
+use Rattle.chv_history.specs.Kept.{Kept, IsRefused, kept_task}
 use Rattle.chv_history.specs.Runs.{task_events}
-use Rattle.chv_history.specs.Tasks.{Task, TellRows}
+use Rattle.chv_history.specs.Tasks.{Task, Bring, Make, TellParts, TellRows}
 use Rattle.chv_history.proofs.LeftLemmas.{behind-append, early, onward}
 use Rattle.chv_engine.specs.Answers.{Answers, AnswersAs, HoldsKept, IsAt, IsLogged, MeetsDamage, Replies, Wish, wish_events, wish_in}
 use Rattle.chv_engine.specs.Faults.{CountsRun, put_fault_of}
@@ -59,11 +59,18 @@ counts_behind result old mid new disk say counts = record {
 
 -- it is not asked that rows are told
 abbrev pub TellsNone : Task → Type 0
-TellsNone task = (table : ℕ) (def : TableDef) → ◌≡◌ {A = Result Task Refusal} (Ok task) (Ok (TellRows table def)) → ⊥
+TellsNone task = (query : Asked) → ◌≡◌ {A = Result Task Refusal} (Ok task) (Ok (TellRows query)) → ⊥
+
+-- a task that no check refuses may be answered without refusal
+pub not_refused : (task : Task) → IsRefused (Ok task) false
+not_refused (Make accepted) = refl
+not_refused (Bring plan) = refl
+not_refused (TellRows query) = λ refused. absurd (false≢true refused)
+not_refused (TellParts table def) = refl
 
 module _ (tells : Type 0) (client : ℕ) (wish : Wish) (task : Task) (none : TellsNone task) (was is : Store) (old : Outside) (usable : IsUsable tells was old) (asks : Asks wish was (Ok task)) where
   unmet : (damage : Damage) → MeetsDamage wish was (bytes_in old) damage → ⊥
-  unmet damage meets = none meets.table meets.def (sym (asks (entries_held was) (λ table first last. refl)) ∙ meets.asks)
+  unmet damage meets = none meets.query (sym (asks (entries_held was) (λ table first last. refl)) ∙ meets.asks)
 
   module _ (line : List ℕ) (result : Result Bool RunFault) (between new : Outside) (done : Done tells client task line was is old between) (replies : Replies tells line false result between new) where
     -- the events of what is asked for are what was done, and its reply
@@ -96,12 +103,12 @@ module _ (tells : Type 0) (client : ℕ) (wish : Wish) (task : Task) (none : Tel
         (moment_saying is between between new before (done.text m.history) done.plans false [] (behind events m) done.usable.within (done.at tell before m at) saying)
         (λ image text left. onward events rest before m image text left))
 
-    kept_at : IfOk result (λ refused. (kept : Kept) → HoldsKept was kept → HoldsKept is (kept_task (wish_in wish kept) kept) × (is_refusal (wish_in wish kept) ≡ refused))
+    kept_at : IfOk result (λ refused. (kept : Kept) → HoldsKept was kept → HoldsKept is (kept_task (wish_in wish kept) kept) × IsRefused (wish_in wish kept) refused)
     kept_at =
-        IfOk-weaker result (λ answer. answer ≡ false) (λ refused. (kept : Kept) → HoldsKept was kept → HoldsKept is (kept_task (wish_in wish kept) kept) × (is_refusal (wish_in wish kept) ≡ refused))
+        IfOk-weaker result (λ answer. answer ≡ false) (λ refused. (kept : Kept) → HoldsKept was kept → HoldsKept is (kept_task (wish_in wish kept) kept) × IsRefused (wish_in wish kept) refused)
         (λ refused is_false kept has.
         let so : wish_in wish kept ≡ Ok task = asked_kept client wish was (Ok task) asks kept has in
-        (subst (λ (a : Result Task Refusal). HoldsKept is (kept_task a kept)) (sym so) (done.kept kept has), ap is_refusal so ∙ sym is_false))
+        (subst (λ (a : Result Task Refusal). HoldsKept is (kept_task a kept)) (sym so) (done.kept kept has), subst (λ (a : Result Task Refusal). IsRefused a refused) (sym so) (subst (IsRefused (Ok task)) (sym is_false) (not_refused task))))
         replies.answer
 
     -- a client is answered what it asks for

@@ -8,7 +8,7 @@ use Rattle.chv_define.specs.Accepted.{tables_of, catalog_payload}
 use Rattle.chv_history.specs.Crashes.{IsLeftBy}
 use Rattle.chv_history.specs.Events.{Moment, begins, behind}
 use Rattle.chv_history.specs.Histories.{History, Settles, book_of}
-use Rattle.chv_history.specs.Kept.{Kept, refuses}
+use Rattle.chv_history.specs.Kept.{Kept, Refuses}
 use Rattle.chv_history.specs.Runs.{run_events}
 use Rattle.chv_history.specs.Script.{Request}
 use Rattle.chv_history.proofs.LeftLemmas.{left_still}
@@ -210,7 +210,7 @@ tells_met store old mid new result requests line within opens parts same damaged
 
 module _ (tells : Type 0) (requests : List Request) (result : Result Bool RunFault) (store is : Store) (old mid new : Outside) (t : tells) (runs : RunsAll tells requests result store is mid new) where
   -- whether one is refused follows from what the logs say
-  pub run_refused : IsWithin store → OpensAs store (bytes_in old) mid.files → IfOk result (λ refused. (kept : Kept) → HasKept (bytes_in old) kept → refuses requests kept ≡ refused)
+  pub run_refused : IsWithin store → OpensAs store (bytes_in old) mid.files → IfOk result (λ refused. (kept : Kept) → HasKept (bytes_in old) kept → Refuses requests kept refused)
   run_refused within opens = IfOk-weaker result _ _ (λ refused says kept has. says kept (opened_kept store (bytes_in old) mid.files kept within opens has)) runs.kept
 
   -- where the files stood for a history, the run goes through its events

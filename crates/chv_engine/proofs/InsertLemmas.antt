@@ -68,7 +68,7 @@ insert_refused store insert refuses is entries agree = ap (λ (r : Result Plan R
 
 -- deliveries ask for no rows
 bring_tells_none : (plan : Plan) → TellsNone (Bring plan)
-bring_tells_none plan table def same = cc same
+bring_tells_none plan query same = cc same
 
 -- the first of the deliveries that are held goes to a table that stands, and so do all
 module _ (store : Store) (held : List HeldDelivery) (plan : Plan) (delivers : DeliversAll store.schema.tables held plan) (one : (table : ℕ) × All (λ (h : HeldDelivery). h.table ≡ table) held) (first : HeldDelivery) (some : 1 ≤ length held) where

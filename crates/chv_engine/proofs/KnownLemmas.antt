@@ -13,7 +13,7 @@ use Rattle.chv_define.specs.Accepted.{is_built_table}
 use Rattle.chv_types.specs.Steps.{refuse_if}
 use Rattle.chv_history.specs.Built.{is_built}
 use Rattle.chv_history.specs.Tasks.{built_task}
-use Rattle.chv_engine.specs.Answers.{create_wish, insert_wish, parts_wish, rows_wish, statement_wish}
+use Rattle.chv_engine.specs.Answers.{create_wish, insert_wish, parts_wish, query_wish, statement_wish}
 
 module _ (asked : Statement) (tables : List TableDef) (entries : ℕ → ℕ) where
   -- one that is not is refused
@@ -29,7 +29,7 @@ module _ (asked : Statement) (tables : List TableDef) (entries : ℕ → ℕ) wh
   pub known_insert : (brought : Insert) → is_built asked ≡ true → asked ≡ statement.Insert brought → insert_wish brought tables entries ≡ statement_wish (Some asked) tables entries
   known_insert brought built is = sym (ap (built_task tables entries) is) ∙ sym (known_built built)
 
-  pub known_query : (query : Select) → is_built asked ≡ true → asked ≡ statement.Query query → rows_wish query.table tables entries ≡ statement_wish (Some asked) tables entries
+  pub known_query : (query : Select) → is_built asked ≡ true → asked ≡ statement.Query query → query_wish query tables entries ≡ statement_wish (Some asked) tables entries
   known_query query built is = sym (ap (built_task tables entries) is) ∙ sym (known_built built)
 
   pub known_parts : (parts : ShowParts) → is_built asked ≡ true → asked ≡ statement.ShowParts parts → parts_wish parts.table tables entries ≡ statement_wish (Some asked) tables entries

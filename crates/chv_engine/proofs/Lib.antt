@@ -1,4 +1,5 @@
 pub mod AnswerLemmas
+pub mod BuiltLaws
 pub mod CreateLemmas
 pub mod DeliverLemmas
 pub mod DoneLemmas

@@ -159,19 +159,20 @@ opened_meets store old now new [] line within opens same meets = absurd meets
 opened_meets store old now new (request ∷ requests) line within opens same meets =
     let kept = meets.kept in
     let holds = opened_kept store old new kept within opens meets.has in
-    let stands = rows_asked kept.tables (entries_kept kept) request.statement meets.table meets.def meets.asks in
-    let here : meets.table - 1 + 1 ≡ meets.table = omega (arith, stands.0) in
-    let below = slice_get_within kept.tables (meets.table - 1) meets.def stands.1 in
-    let state = holds.states meets.table stands.0 (omega (arith, stands.0, below)) in
-    let has = subst (λ (n : ℕ). HasCommits old n meets.def.window (kept.states n)) here (meets.has.states (meets.table - 1) meets.def stands.1) in
-    let numbered = parts_numbered old meets.table meets.def.window (kept.states meets.table) has in (
+    let table = meets.query.table in
+    let def = meets.query.def in
+    let stands = rows_asked kept.tables (entries_kept kept) request.statement meets.query meets.asks in
+    let here : table - 1 + 1 ≡ table = omega (arith, stands.0) in
+    let below = slice_get_within kept.tables (table - 1) def stands.1 in
+    let state = holds.states table stands.0 (omega (arith, stands.0, below)) in
+    let has = subst (λ (n : ℕ). HasCommits old n def.window (kept.states n)) here (meets.has.states (table - 1) def stands.1) in
+    let numbered = parts_numbered old table def.window (kept.states table) has in (
       meets.damage,
       record {
-        table = meets.table;
-        def = meets.def;
+        query = meets.query;
         asks = kept_asks request store kept holds ∙ meets.asks;
-        is = subst (λ (s : State). IsPartDamage meets.table (form_of meets.def) s.layout now meets.damage) (sym state)
-            (damage_kept meets.table (form_of meets.def) (kept.states meets.table).layout old now meets.damage numbered (λ part high. same (part_of meets.table part) (λ none. omega (arith, high, none))) meets.is);
+        is = subst (λ (s : State). IsPartDamage table (form_of def) s.layout now meets.damage) (sym state)
+            (damage_kept table (form_of def) (kept.states table).layout old now meets.damage numbered (λ part high. same (part_of table part) (λ none. omega (arith, high, none))) meets.is);
       },
       meets.told ∙ ap (λ (ts : List TableDef). line_of ts meets.damage) (sym holds.tables),
     )

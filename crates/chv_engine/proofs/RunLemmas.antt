@@ -1,30 +1,26 @@
 -- How requests are answered one after the other: none, one and then the rest, and one that ends the run.
-use Rattle.std.proofs.Common.{◌≡◌, ◌⊎◌, inl, inr, ℕ, ◌+◌, ◌-◌, ◌≤◌, List, [], ◌∷◌, ◌++◌, map, Bool, true, false, not, ◌||◌, Option, None, Some, Ok, Err, IfOk, IsErrOf, slice_get, option_map, refl, sym, ap, ap₂, subst, ◌∙◌, arith}
+use Rattle.std.proofs.Common.{◌≡◌, ◌⊎◌, inl, inr, ℕ, ◌-◌, ◌≤◌, List, [], ◌∷◌, ◌++◌, map, Bool, false, ◌||◌, Option, Some, Ok, Err, IfOk, IsErrOf, slice_get, refl, sym, ap, subst, ◌∙◌, arith}
 use Rattle.std.specs.Prelude.{Result}
 use Rattle.std.proofs.lemmas.Option.{slice_get_within}
 use Rattle.chv_ast.specs.declared.refusal.Refusal.{Refusal}
-use Rattle.chv_ast.specs.declared.refusal.Refusal.TheVariants.{LimitPassed, NotBuilt}
+use Rattle.chv_ast.specs.declared.statement.Select.{Select}
 use Rattle.chv_ast.specs.declared.statement.Statement.{Statement}
-use Rattle.chv_ast.specs.declared.statement.Statement.TheVariants as statement
-use Rattle.chv_catalog.specs.Schemas.{names_of, place_of}
 use Rattle.chv_catalog.specs.declared.table_def.TableDef.{TableDef}
 use Rattle.chv_define.specs.Accepted.{catalog_payload}
-use Rattle.chv_define.specs.Definitions.{defined}
-use Rattle.chv_types.specs.Steps.{and_then, refuse_if}
-use Rattle.chv_history.specs.Built.{is_built}
 use Rattle.chv_history.specs.Crashes.{IsLeftBy}
-use Rattle.chv_history.specs.Events.{Plan, Moment, behind}
+use Rattle.chv_history.specs.Events.{Moment, behind}
 use Rattle.chv_history.specs.Histories.{book_of}
-use Rattle.chv_history.specs.Kept.{Kept, refuses}
+use Rattle.chv_history.specs.Kept.{Kept, Refuses}
 use Rattle.chv_history.specs.Runs.{request_events, run_events}
 use Rattle.chv_history.specs.Script.{Request}
-use Rattle.chv_history.specs.Tasks.{Task, Bring, Make, TellParts, TellRows, built_task, has_room, task_of}
+use Rattle.chv_history.specs.Tasks.{Task, Bring, Make, TellParts, TellRows, task_of}
 use Rattle.chv_history.proofs.LeftLemmas.{left_still}
-use Rattle.chv_history.proofs.LookupLemmas.{table_of-known}
+use Rattle.chv_history.proofs.LookupLemmas.{asked_stands}
 use Rattle.chv_history.proofs.RequestLemmas.{behind-cons, first_left, or_assoc, or_false, rest_left}
+use Rattle.chv_history.proofs.TaskLemmas.{task_holds}
 use Rattle.chv_part.specs.Forms.{form_of}
 use Rattle.chv_part.specs.declared.damage.Damage.{Damage}
-use Rattle.chv_plan.specs.Plans.{planned, table_of}
+use Rattle.chv_query.specs.Queries.{Asked, asked}
 use Rattle.chv_site.specs.During.{During}
 use Rattle.chv_site.specs.Faults.{HasRisen}
 use Rattle.chv_site.specs.Files.{FileState, KeepsFiles}
@@ -45,63 +41,32 @@ use Rattle.chv_engine.specs.declared.fault.RunFault.{RunFault}
 use Rattle.chv_engine.specs.declared.fault.RunFault.TheVariants.{Disk, Say, Damaged, NoMemory}
 use Rattle.chv_engine.proofs.AnswerLemmas.{held_at, moment_left, same_files}
 
--- the table of this number and this definition stands
-abbrev pub StandsAt : List TableDef → ℕ → TableDef → Type 0
-StandsAt tables table def = (1 ≤ table) × (slice_get tables (table - 1) ≡ Some def)
+-- the table of a query stands
+abbrev pub StandsAt : List TableDef → Asked → Type 0
+StandsAt tables query = (1 ≤ query.table) × (slice_get tables (query.table - 1) ≡ Some query.def)
 
--- the table that a name finds stands
-pub found_stands : (tables : List TableDef) (name : List ℕ) → IfOk (table_of tables name) (λ found. StandsAt tables found.0 found.1)
-found_stands tables name = by (place_of name (names_of tables)) refl
-  where
-    by : (place : Option ℕ) → place_of name (names_of tables) ≡ place → IfOk (table_of tables name) (λ found. StandsAt tables found.0 found.1)
-    by None found = rw found tt
-    by (Some place) found = let named = table_of-known tables name (place + 1) (ap (option_map (λ (p : ℕ). p + 1)) found) in rw named.is (named.first, named.stands)
+query_stands : (tables : List TableDef) (select : Select) (query : Asked) → asked tables select ≡ Ok query → StandsAt tables query
+query_stands tables select query asks = let found = asked_stands tables select query asks in (found.first, found.stands)
 
--- where all rows are asked for, those of a table that stands
+-- where rows are asked for, they are those of a table that stands
 abbrev TellsTable : List TableDef → Task → Type 0
 TellsTable tables (Make accepted) = Unit {0}
 TellsTable tables (Bring plan) = Unit {0}
-TellsTable tables (TellRows table def) = StandsAt tables table def
+TellsTable tables (TellRows query) = StandsAt tables query
 TellsTable tables (TellParts table def) = Unit {0}
 
--- what holds of each task behind a check holds behind it
-then_holds : {A : Type 0} (r : Result A Refusal) (rest : A → Result Task Refusal) (P : Task → Type 0) → ((a : A) → IfOk (rest a) P) → IfOk (and_then r rest) P
-then_holds (Ok a) rest P holds = holds a
-then_holds (Err refusal) rest P holds = tt
-
-unless_refused : (b : Bool) (refusal : Refusal) (task : Result Task Refusal) (P : Task → Type 0) → IfOk task P → IfOk (refuse_if b refusal task) P
-unless_refused true refusal task P holds = tt
-unless_refused false refusal task P holds = holds
-
-rows_tell : (tables : List TableDef) (found : Result (ℕ × TableDef) Refusal) → IfOk found (λ f. StandsAt tables f.0 f.1) → IfOk (and_then found (λ f. Ok (TellRows f.0 f.1))) (TellsTable tables)
-rows_tell tables (Ok found) stands = stands
-rows_tell tables (Err refusal) stands = tt
-
-built_tells : (tables : List TableDef) (entries : ℕ → ℕ) (asked : Statement) → IfOk (built_task tables entries asked) (TellsTable tables)
-built_tells tables entries (statement.CreateTable made) = then_holds (defined tables made) _ (TellsTable tables) (λ def. tt)
-built_tells tables entries (statement.Insert brought) =
-    then_holds (planned tables brought) _ (TellsTable tables)
-    (λ (plan : Plan). unless_refused (not (has_room plan entries)) LimitPassed (Ok (Bring plan)) (TellsTable tables) tt)
-built_tells tables entries (statement.Query all) = rows_tell tables (table_of tables all.table) (found_stands tables all.table)
-built_tells tables entries (statement.ShowParts parts) = then_holds (table_of tables parts.table) _ (TellsTable tables) (λ found. tt)
-built_tells tables entries (statement.CreateView made) = tt
-built_tells tables entries (statement.Optimize parts) = tt
-built_tells tables entries statement.FlushQueue = tt
-
-task_tells : (tables : List TableDef) (entries : ℕ → ℕ) (asked : Option Statement) → IfOk (task_of tables entries asked) (TellsTable tables)
-task_tells tables entries None = tt
-task_tells tables entries (Some asked) = unless_refused (not (is_built asked)) NotBuilt (built_task tables entries asked) (TellsTable tables) (built_tells tables entries asked)
-
--- a table all rows of which are asked for stands
-pub rows_asked : (tables : List TableDef) (entries : ℕ → ℕ) (asked : Option Statement) (table : ℕ) (def : TableDef) → task_of tables entries asked ≡ Ok (TellRows table def) → StandsAt tables table def
-rows_asked tables entries asked table def asks = subst (λ (task : Result Task Refusal). IfOk task (TellsTable tables)) asks (task_tells tables entries asked)
+-- a query that is asked is of a table that stands
+pub rows_asked : (tables : List TableDef) (entries : ℕ → ℕ) (text : Option Statement) (query : Asked) → task_of tables entries text ≡ Ok (TellRows query) → StandsAt tables query
+rows_asked tables entries text query asks =
+    subst (λ (task : Result Task Refusal). IfOk task (TellsTable tables)) asks
+    (task_holds tables entries (TellsTable tables) (query_stands tables) (λ table def. tt) text (λ made is def built defines. tt) (λ brought is plan brings room. tt))
 
 -- the damage that a request meets is of a table that stands
 pub meets_held : (request : Request) (store : Store) (outside : Outside) (damage : Damage) → IsWithin store
     → MeetsDamage (request_wish request) store (bytes_in outside) damage → IsHeldDamage store outside damage
 meets_held request store outside damage within meets =
-    let stands = rows_asked store.schema.tables (λ other. (state_of store other).entries) request.statement meets.table meets.def meets.asks in
-    record { within = within; table = meets.table; def = meets.def; first = stands.0; stands = stands.1; is = meets.is }
+    let stands = rows_asked store.schema.tables (λ other. (state_of store other).entries) request.statement meets.query meets.asks in
+    record { within = within; table = meets.query.table; def = meets.query.def; first = stands.0; stands = stands.1; is = meets.is }
 
 -- what holds of a store and of damage holds as long as the files are as they were
 pub logged_kept : (store : Store) (old new : FileId → FileState) → KeepsFiles old new → IsLogged store old → IsLogged store new
@@ -231,10 +196,10 @@ module _ (tells : Type 0) (request : Request) (rest : List Request) (one : Bool)
       (weakened old between (IsLeftBy (request_events request m.history) before m) all (first.during t before m at) (first_left request rest m before))
       (then.during t before (next m) (first.answered t before m at).at) (rest_left request rest m before)
 
-  both_kept : IfOk (also one r) (λ refused. (kept : Kept) → HoldsKept was kept → refuses (request ∷ rest) kept ≡ refused)
+  both_kept : IfOk (also one r) (λ refused. (kept : Kept) → HoldsKept was kept → Refuses (request ∷ rest) kept refused)
   both_kept =
-      also_ok one r (λ refused. (kept : Kept) → HoldsKept mid kept → refuses rest kept ≡ refused) (λ refused. (kept : Kept) → HoldsKept was kept → refuses (request ∷ rest) kept ≡ refused)
-      (λ refused so kept holds. let here = first.kept kept holds in ap₂ (λ (a b : Bool). a || b) here.1 (so _ here.0)) then.kept
+      also_ok one r (λ refused. (kept : Kept) → HoldsKept mid kept → Refuses rest kept refused) (λ refused. (kept : Kept) → HoldsKept was kept → Refuses (request ∷ rest) kept refused)
+      (λ refused so kept holds. let here = first.kept kept holds in (one, refused, refl, here.1, so _ here.0)) then.kept
 
   pub first_then : AnswersAll tells (request ∷ rest) (also one r) was is old new
   first_then = record {

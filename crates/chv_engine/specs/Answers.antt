@@ -4,6 +4,7 @@ use Rattle.chv_ast.specs.declared.refusal.Refusal.{Refusal}
 use Rattle.chv_ast.specs.declared.refusal.Refusal.TheVariants.{LimitPassed}
 use Rattle.chv_ast.specs.declared.statement.CreateTable.{CreateTable}
 use Rattle.chv_ast.specs.declared.statement.Insert.{Insert}
+use Rattle.chv_ast.specs.declared.statement.Select.{Select}
 use Rattle.chv_ast.specs.declared.statement.Statement.{Statement}
 use Rattle.chv_ast.specs.declared.statement.Statement.TheVariants as statement
 use Rattle.chv_catalog.specs.declared.table_def.TableDef.{TableDef}
@@ -14,13 +15,15 @@ use Rattle.chv_types.specs.Steps.{and_then, refuse_if}
 use Rattle.chv_history.specs.Crashes.{IsLeftBy}
 use Rattle.chv_history.specs.Events.{Event, Plan, Moment, behind}
 use Rattle.chv_history.specs.Histories.{History, book_of, IsLawful}
-use Rattle.chv_history.specs.Kept.{Kept, kept_task, is_refusal, refuses}
+use Rattle.chv_history.specs.Kept.{Kept, IsRefused, Refuses, kept_task}
 use Rattle.chv_history.specs.Runs.{answer_events, entries_in, run_events}
 use Rattle.chv_history.specs.Script.{Request}
 use Rattle.chv_history.specs.Tasks.{Task, Make, Bring, TellRows, TellParts, has_room, task_of}
 use Rattle.chv_part.specs.Forms.{form_of}
 use Rattle.chv_part.specs.declared.damage.Damage.{Damage}
-use Rattle.chv_plan.specs.Plans.{planned, table_of}
+use Rattle.chv_query.specs.Tables.{table_of}
+use Rattle.chv_plan.specs.Plans.{planned}
+use Rattle.chv_query.specs.Queries.{Asked, asked}
 use Rattle.chv_site.specs.During.{During}
 use Rattle.chv_site.specs.FileIds.{table_log}
 use Rattle.chv_site.specs.Files.{FileState, KeepsFiles}
@@ -76,12 +79,11 @@ pub record IsLogged (store : Store) (files : FileId → FileState) : Type 0 wher
   pub holds : HoldsLogs store files (map catalog_payload schema) commits
   pub others : (table : ℕ) → length store.schema.tables < table → (files (table_log table)).most ≤ 1
 
--- all rows of a table are asked for, and this damage is that of the first of its live parts that is damaged
+-- a query is asked that no check refuses, and this damage is that of the first damaged one of the live parts of its table
 pub record MeetsDamage (wish : Wish) (store : Store) (files : Image) (damage : Damage) : Type 0 where
-  pub table : ℕ
-  pub def : TableDef
-  pub asks : wish store.schema.tables (λ other. (state_of store other).entries) ≡ Ok (TellRows table def)
-  pub is : IsPartDamage table (form_of def) (state_of store table).layout files damage
+  pub query : Asked
+  pub asks : wish store.schema.tables (λ other. (state_of store other).entries) ≡ Ok (TellRows query)
+  pub is : IsPartDamage query.table (form_of query.def) (state_of store query.table).layout files damage
 
 -- this damage ends the run, unless another fault does
 abbrev pub EndsBy : Damage → Result Bool RunFault → Type 0
@@ -111,7 +113,7 @@ pub record Answers (tells : Type 0) (client : ℕ) (wish : Wish) (result : Resul
   pub answered : tells → IfOk result (λ refused. (before : List ℕ) (m : Moment) → IsAt was old before m → AnswersAs is new before refused (wish_events client wish m.history) m)
   pub during : tells → (before : List ℕ) (m : Moment) → IsAt was old before m → During old new (IsLeftBy (wish_events client wish m.history) before m)
   -- whatever the files hold: whether it is refused, and what is held afterwards; a refusal changes no file
-  pub kept : IfOk result (λ refused. (kept : Kept) → HoldsKept was kept → HoldsKept is (kept_task (wish_in wish kept) kept) × (is_refusal (wish_in wish kept) ≡ refused))
+  pub kept : IfOk result (λ refused. (kept : Kept) → HoldsKept was kept → HoldsKept is (kept_task (wish_in wish kept) kept) × IsRefused (wish_in wish kept) refused)
   pub refused : tells → IfOk result (λ refused. refused ≡ true → KeepsFiles old.files new.files)
   pub logged : tells → OnOk result (IsLogged was old.files → IsLogged is new.files)
   pub usable : OnOk result (IsUsable tells is new)
@@ -120,10 +122,16 @@ pub record Answers (tells : Type 0) (client : ℕ) (wish : Wish) (result : Resul
   pub met : tells → (damage : Damage) → MeetsDamage wish was (bytes_in old) damage → EndsBy damage result
   pub counts : CountsRun result old new
 
--- all rows, or the parts, of the table of a name are asked for
-abbrev pub rows_wish : List ℕ → Wish
-rows_wish name tables entries = and_then (table_of tables name) (λ found. Ok (TellRows found.0 found.1))
+-- the rows of a query are asked for
+abbrev pub query_wish : Select → Wish
+query_wish select tables entries = and_then (asked tables select) (λ query. Ok (TellRows query))
 
+-- a query is of a table of the store
+pub record IsOfStore (store : Store) (query : Asked) : Type 0 where
+  pub first : 1 ≤ query.table
+  pub stands : slice_get store.schema.tables (query.table - 1) ≡ Some query.def
+
+-- the parts of the table of a name are asked for
 abbrev pub parts_wish : List ℕ → Wish
 parts_wish name tables entries = and_then (table_of tables name) (λ found. Ok (TellParts found.0 found.1))
 
@@ -145,8 +153,8 @@ statement_wish asked tables entries = task_of tables entries asked
 abbrev pub request_wish : Request → Wish
 request_wish request = statement_wish request.statement
 
--- the first of these requests asks for all rows of a table, and this damage is that of the first of its live parts that is
--- damaged
+-- the first of these requests is a query that no check refuses, and this damage is that of the first damaged one of the live
+-- parts of its table
 abbrev pub FirstAsks : List Request → Store → Image → Damage → Type 0
 FirstAsks [] store files damage = ⊥
 FirstAsks (request ∷ requests) store files damage = MeetsDamage (request_wish request) store files damage
@@ -170,7 +178,7 @@ pub record IsHeldDamage (store : Store) (outside : Outside) (damage : Damage) : 
 pub record AnswersAll (tells : Type 0) (requests : List Request) (result : Result Bool RunFault) (was is : Store) (old new : Outside) : Type 0 where
   pub answered : tells → IfOk result (λ refused. (before : List ℕ) (m : Moment) → IsAt was old before m → AnswersAs is new before refused (run_events requests m) m)
   pub during : tells → (before : List ℕ) (m : Moment) → IsAt was old before m → During old new (IsLeftBy (run_events requests m) before m)
-  pub kept : IfOk result (λ refused. (kept : Kept) → HoldsKept was kept → refuses requests kept ≡ refused)
+  pub kept : IfOk result (λ refused. (kept : Kept) → HoldsKept was kept → Refuses requests kept refused)
   -- damage is of the live parts of a table that stands, as they are held when it is met; the tables are those that stand then
   pub damaged : tells → (damage : Damage) → IsErrOf result (Damaged damage) → IsHeldDamage is new damage × (IsLogged was old.files → IsLogged is new.files)
   pub undamaged : tells → (before : List ℕ) (m : Moment) (damage : Damage) → IsAt was old before m → IsErrOf result (Damaged damage) → ⊥
@@ -189,7 +197,7 @@ pub record TellsHeld (was is : Store) (damage : Damage) (old new : Outside) : Ty
 pub record RunsAll (tells : Type 0) (requests : List Request) (result : Result Bool RunFault) (was is : Store) (old new : Outside) : Type 0 where
   pub answered : tells → IfOk result (λ refused. (before : List ℕ) (m : Moment) → IsAt was old before m → AnswersAs is new before refused (run_events requests m) m)
   pub during : tells → (before : List ℕ) (m : Moment) → IsAt was old before m → During old new (IsLeftBy (run_events requests m) before m)
-  pub kept : IfOk result (λ refused. (kept : Kept) → HoldsKept was kept → refuses requests kept ≡ refused)
+  pub kept : IfOk result (λ refused. (kept : Kept) → HoldsKept was kept → Refuses requests kept refused)
   pub damaged : tells → (damage : Damage) → IsErrOf result (Damaged damage) → TellsHeld was is damage old new
   pub undamaged : tells → (before : List ℕ) (m : Moment) (damage : Damage) → IsAt was old before m → IsErrOf result (Damaged damage) → ⊥
   pub met : tells → (damage : Damage) → FirstAsks requests was (bytes_in old) damage → TellsOrFails result old.said new.said (line_of was.schema.tables damage)

@@ -10,6 +10,7 @@ use Rattle.chv_history.specs.Tasks.{TellRows}
 use Rattle.chv_part.specs.Forms.{form_of}
 use Rattle.chv_part.specs.declared.damage.Damage.{Damage}
 use Rattle.chv_part.specs.declared.damage.Damage.TheVariants.{Catalog, Log, PartHash, PartShape}
+use Rattle.chv_query.specs.Queries.{Asked}
 use Rattle.chv_site.specs.FileIds.{catalog_log, table_log}
 use Rattle.chv_site.specs.Files.{FileState}
 use Rattle.chv_site.specs.Images.{Image}
@@ -80,15 +81,15 @@ pub record HasKept (files : Image) (kept : Kept) : Type 0 where
   pub tables : kept.tables ≡ tables_of schema
   pub states : (place : ℕ) (def : TableDef) → slice_get kept.tables place ≡ Some def → HasCommits files (place + 1) def.window (kept.states (place + 1))
 
--- no log is damaged, the first request asks for all rows of a table, and this line tells the first of its parts that is damaged
+-- no log is damaged, the first request is a query that no check refuses, and this line tells the first damaged one of the parts
+-- of its table
 pub record MeetsPart (files : Image) (request : Request) (line : List ℕ) : Type 0 where
   pub kept : Kept
   pub has : HasKept files kept
-  pub table : ℕ
-  pub def : TableDef
-  pub asks : kept_answer request kept ≡ Ok (TellRows table def)
+  pub query : Asked
+  pub asks : kept_answer request kept ≡ Ok (TellRows query)
   pub damage : Damage
-  pub is : IsPartDamage table (form_of def) (kept.states table).layout files damage
+  pub is : IsPartDamage query.table (form_of query.def) (kept.states query.table).layout files damage
   pub told : line ≡ line_of kept.tables damage
 
 -- the first of these requests meets a part that is damaged, and this line tells it

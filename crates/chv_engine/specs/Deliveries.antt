@@ -1,5 +1,5 @@
 -- What deliveries that are made one after the other do.
-use Rattle.std.specs.Prelude.{ℕ, ◌≡◌, List, length, map, Result, IfOk, OnOk}
+use Rattle.std.specs.Prelude.{ℕ, ◌≡◌, List, map, Result, IfOk, OnOk}
 use Rattle.chv_history.specs.Crashes.{IsLeftBy}
 use Rattle.chv_history.specs.Events.{Plan, Moment, behind}
 use Rattle.chv_history.specs.Kept.{Kept, kept_plan}

@@ -1,10 +1,7 @@
 -- How a whole call ends, by its status.
-use Rattle.std.specs.Prelude.{ℕ, ◌≡◌, ◌≢◌, ◌⊎◌, List, ◌++◌, Bool, true, false, Result, Ok, Err}
+use Rattle.std.specs.Prelude.{ℕ, ◌≡◌, ◌≢◌, ◌⊎◌, List, ◌++◌, Bool, true, false}
 use Rattle.chv_site.specs.Faults.{HasRisen}
-use Rattle.chv_site.specs.Files.{FileState}
-use Rattle.chv_site.specs.Images.{Image}
 use Rattle.chv_site.specs.Outside.{Outside, bytes_in}
-use Rattle.chv_site.specs.declared.file_id.FileId.{FileId}
 use Rattle.chv_history.specs.Events.{begins, behind}
 use Rattle.chv_history.specs.Histories.{History, Stands}
 use Rattle.chv_history.specs.Runs.{run_events}

@@ -1,5 +1,5 @@
 -- The causes of a fault that ends a run.
-use Rattle.std.specs.Prelude.{ℕ, ◌≡◌, ◌≤◌, Bool, Result, Err, IsErrOf}
+use Rattle.std.specs.Prelude.{◌≡◌, ◌≤◌, Bool, Result, Err, IsErrOf}
 use Rattle.chv_site.specs.Faults.{HasRisen}
 use Rattle.chv_site.specs.Outside.{Outside}
 use Rattle.chv_table.specs.declared.fault.PutFault.{PutFault}

@@ -52,7 +52,7 @@ fn answer_statement<W: Site>(
     match statement {
         Statement::CreateTable(made) => create(alloc, site, store, client, made),
         Statement::Insert(brought) => insert(alloc, site, store, client, brought),
-        Statement::Query(asked) => select(alloc, site, store, client, asked.table.as_slice()),
+        Statement::Query(asked) => select(alloc, site, store, client, asked),
         Statement::ShowParts(asked) => {
             show_parts(alloc, site, store, client, asked.table.as_slice())
         }

@@ -4,7 +4,7 @@ ghost use Rattle.std.specs.List.{All};
 ghost use Rattle.chv_history.specs.Crashes.{IsLeftBy};
 ghost use Rattle.chv_history.specs.Events.{begins};
 ghost use Rattle.chv_history.specs.Histories.{History, Settles};
-ghost use Rattle.chv_history.specs.Kept.{Kept, refuses};
+ghost use Rattle.chv_history.specs.Kept.{Kept, Refuses};
 ghost use Rattle.chv_history.specs.Runs.{run_events};
 ghost use Rattle.chv_history.specs.Script.{from_client, requests_in, requests_of};
 ghost use Rattle.chv_lex.specs.Scripts.{IsPieceOf};
@@ -31,8 +31,9 @@ use std::alloc::Global;
 pub fn run_script<W: Site>(alloc: Global, site: &mut W, script: &[u8]) -> Result<bool, RunFault>
     ensures ended { W.tells → (history : History) → Settles (W.outside site.old).files history
         → IfOk result (EndsAt (requests_of script.now) history (W.outside site.old) (W.outside site.new)) }
-    // Whatever the files stand for, whether a statement is refused follows from the script and what the logs say.
-    ensures refused { W.tells → IfOk result (λ refused. (kept : Kept) → HasKept (bytes_in (W.outside site.old)) kept → refuses (requests_of script.now) kept ≡ refused) }
+    // Whatever the files stand for, whether a statement is refused follows from the script and what the logs say; of a query that
+    // no check refuses it follows from the rows, where it may divide by zero.
+    ensures refused { W.tells → IfOk result (λ refused. (kept : Kept) → HasKept (bytes_in (W.outside site.old)) kept → Refuses (requests_of script.now) kept refused) }
     // A crash at any moment of the call leaves files and a text of one moment of the run.
     ensures during { W.tells → (history : History) → Settles (W.outside site.old).files history → During (W.outside site.old) (W.outside site.new)
         (IsLeftBy (run_events (requests_of script.now) (begins history)) (W.outside site.old).said (begins history)) }

@@ -3,7 +3,7 @@ ghost use Rattle.std.specs.Prelude.{◌≡◌, ◌≢◌, ◌⊎◌, ◌≤◌, 
 ghost use Rattle.chv_history.specs.Crashes.{IsLeftBy};
 ghost use Rattle.chv_history.specs.Events.{begins};
 ghost use Rattle.chv_history.specs.Histories.{History, Settles};
-ghost use Rattle.chv_history.specs.Kept.{Kept, refuses};
+ghost use Rattle.chv_history.specs.Kept.{Kept, Refuses};
 ghost use Rattle.chv_history.specs.Runs.{run_events};
 ghost use Rattle.chv_history.specs.Script.{requests_of};
 ghost use Rattle.chv_site.specs.During.{During};
@@ -41,8 +41,9 @@ pub fn chviews<S: Source, W: Site>(
     // A run that comes to its end has said the replies to all requests, and the files stand for the history behind its events.
     ensures ended { S.tells → W.tells → (history : History) → Settles (W.outside site.old).files history
         → IfEnded result (EndsAt (requests_of (S.left source.old)) history (W.outside site.old) (W.outside site.new)) }
-    // Whatever the files stand for, whether a statement is refused follows from the script and what the logs say.
-    ensures refused { S.tells → W.tells → IfEnded result (λ refused. (kept : Kept) → HasKept (bytes_in (W.outside site.old)) kept → refuses (requests_of (S.left source.old)) kept ≡ refused) }
+    // Whatever the files stand for, whether a statement is refused follows from the script and what the logs say; of a query that
+    // no check refuses it follows from the rows, where it may divide by zero.
+    ensures refused { S.tells → W.tells → IfEnded result (λ refused. (kept : Kept) → HasKept (bytes_in (W.outside site.old)) kept → Refuses (requests_of (S.left source.old)) kept refused) }
     // At any moment since the call began, whatever a crash leaves: the files stand for the history behind some of the run's
     // events, and the text is the one behind them, or goes on by a front of what the next event says.
     ensures during { S.tells → W.tells → (history : History) → Settles (W.outside site.old).files history → During (W.outside site.old) (W.outside site.new)
@@ -71,7 +72,7 @@ fn run<S: Source, W: Site>(alloc: Global, source: &mut S, site: &mut W) -> Statu
     ensures complete { S.tells → length (S.left source.old) ≤ MAX_SCRIPT → MeetsNoFault (S.faults source.old) (S.faults source.new) (W.outside site.old) (W.outside site.new) → EndsWithoutFault result }
     ensures ended { S.tells → W.tells → (history : History) → Settles (W.outside site.old).files history
         → IfEnded result (EndsAt (requests_of (S.left source.old)) history (W.outside site.old) (W.outside site.new)) }
-    ensures refused { S.tells → W.tells → IfEnded result (λ refused. (kept : Kept) → HasKept (bytes_in (W.outside site.old)) kept → refuses (requests_of (S.left source.old)) kept ≡ refused) }
+    ensures refused { S.tells → W.tells → IfEnded result (λ refused. (kept : Kept) → HasKept (bytes_in (W.outside site.old)) kept → Refuses (requests_of (S.left source.old)) kept refused) }
     ensures during { S.tells → W.tells → (history : History) → Settles (W.outside site.old).files history → During (W.outside site.old) (W.outside site.new)
         (IsLeftBy (run_events (requests_of (S.left source.old)) (begins history)) (W.outside site.old).said (begins history)) }
     ensures damaged { W.tells → result ≡ Status.Damaged → SaysDamage (W.outside site.old) (W.outside site.new) }

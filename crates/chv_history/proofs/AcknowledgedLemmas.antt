@@ -10,6 +10,7 @@ use Rattle.chv_define.proofs.AcceptedLemmas.{tables_of-push}
 use Rattle.chv_part.specs.Forms.{form_of}
 use Rattle.chv_plan.specs.Arrivals.{Arrival}
 use Rattle.chv_plan.specs.Plans.{Delivery, planned}
+use Rattle.chv_query.specs.Queries.{divides}
 use Rattle.chv_site.specs.Files.{IsFrontOf}
 use Rattle.chv_sip.specs.declared.block_id.BlockId.{BlockId}
 use Rattle.chv_text.specs.Replies.{ok_line, insert_line, refused_line}
@@ -20,7 +21,7 @@ use Rattle.chv_history.specs.Histories.{History, book_of, ids_in, window_at, wit
 use Rattle.chv_history.specs.Runs.{answer_events, delivered, delivery_event, entries_in, insert_events, run_events, task_events, written_of}
 use Rattle.chv_history.specs.Script.{Request}
 use Rattle.chv_history.specs.Tasks.{Task, Bring, Make, TellParts, TellRows, task_of}
-use Rattle.chv_history.specs.Told.{parts_text, shown_text}
+use Rattle.chv_history.specs.Told.{parts_text, query_text, table_rows}
 use Rattle.chv_history.proofs.ArrivingLemmas.{among_all, put_at-other}
 use Rattle.chv_history.proofs.CommitLemmas.{arrivals-other, arrivals-with_arrivals, arrivals-with_commit, is_skipped, schema-with_commit, with_commit-new, with_commit-skipped}
 use Rattle.chv_history.proofs.LookupLemmas.{planned-within}
@@ -209,7 +210,7 @@ holding_insert client plan done m known held =
 abbrev pub TaskKnown : History → Task → Type 0
 TaskKnown history (Make accepted) = Unit {0}
 TaskKnown history (Bring plan) = All (IsKnown history) plan
-TaskKnown history (TellRows table def) = Unit {0}
+TaskKnown history (TellRows query) = Unit {0}
 TaskKnown history (TellParts table def) = Unit {0}
 
 holding_task : (client : ℕ) (task : Task) (done : List Event) (m : Moment) → TaskKnown m.history task → Holding m → While Held done (task_events client task m.history) m
@@ -219,7 +220,9 @@ holding_task client (Make accepted) done m known held = (
       (keeps_held m.history (with_accepted accepted m.history) m.acknowledged (delivered_created accepted m.history) held),
 )
 holding_task client (Bring plan) done m known held = holding_insert client plan done m known held
-holding_task client (TellRows table def) done m known held = holding_reply (shown_text client (form_of def) (book_of m.history table)) false done m held
+holding_task client (TellRows query) done m known held =
+    let rows = table_rows (form_of query.def) (book_of m.history query.table) in
+    holding_reply (query_text client query rows) (divides query rows) done m held
 holding_task client (TellParts table def) done m known held = holding_reply (parts_text client (form_of def) (book_of m.history table)) false done m held
 
 holding_answer : (client : ℕ) (task : Result Task Refusal) (done : List Event) (m : Moment) → IfOk task (TaskKnown m.history) → Holding m → While Held done (answer_events client task m.history) m
@@ -232,7 +235,7 @@ planned_known plans plan P holds same = subst (λ (r : Result Plan Refusal). IfO
 
 pub known_task : (asked : Option Statement) (history : History) → IfOk (task_of (tables_of history.schema) (entries_in history) asked) (TaskKnown history)
 known_task asked history =
-    task_holds (tables_of history.schema) (entries_in history) (TaskKnown history) (λ table def. tt) (λ table def. tt) asked (λ made is def built defines. tt)
+    task_holds (tables_of history.schema) (entries_in history) (TaskKnown history) (λ select query asks. tt) (λ table def. tt) asked (λ made is def built defines. tt)
     (λ brought is plan brings room. planned_known (planned (tables_of history.schema) brought) plan (All (IsKnown history)) (planned-within (tables_of history.schema) brought) brings)
 
 -- while requests are answered the history holds what is acknowledged

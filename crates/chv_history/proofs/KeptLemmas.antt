@@ -1,9 +1,10 @@
 -- What a run holds of its tables is that of its history.
-use Rattle.std.proofs.Common.{◌≡◌, ◌≢◌, inl, inr, ℕ, ◌+◌, ◌-◌, ◌≤◌, Bool, true, false, not, ◌&&◌, ◌||◌, if◌then◌else◌, List, [], ◌∷◌, ◌++◌, length, map, Option, None, Some, Result, Ok, Err, IfOk, nat_lt, slice_get, refl, sym, ap, ap₂, subst, ◌∙◌, arith}
+use Rattle.std.proofs.Common.{◌≡◌, ◌≢◌, inl, inr, ℕ, ◌+◌, ◌-◌, ◌≤◌, Bool, true, false, not, ◌&&◌, ◌||◌, if◌then◌else◌, List, [], ◌∷◌, ◌++◌, length, map, Option, None, Some, Result, Ok, Err, IfOk, is_none, nat_lt, slice_get, refl, sym, ap, ap₂, subst, ◌∙◌, arith}
 use Rattle.std.specs.List.{All, list_all, list_any}
 use Rattle.std.proofs.lemmas.Bool.{cases_eq}
 use Rattle.std.proofs.lemmas.List.{drop_all, length-append, map_push}
 use Rattle.std.proofs.lemmas.List.Elements.{All-head, All-tail}
+use Rattle.std.proofs.lemmas.List.Folds.{Any-from_list_any}
 use Rattle.chv_ast.specs.declared.refusal.Refusal.{Refusal}
 use Rattle.chv_ast.specs.declared.refusal.Refusal.TheVariants.{LimitPassed, NotBuilt}
 use Rattle.chv_ast.specs.declared.statement.Statement.{Statement}
@@ -12,19 +13,23 @@ use Rattle.chv_catalog.specs.declared.table_def.TableDef.{TableDef}
 use Rattle.chv_commit.specs.Replays.{MAX_ENTRIES, State, added, no_state}
 use Rattle.chv_define.specs.Accepted.{Accepted, tables_in, tables_of}
 use Rattle.chv_define.proofs.AcceptedLemmas.{tables_of-push}
+use Rattle.chv_part.specs.Forms.{form_of}
 use Rattle.chv_plan.specs.Arrivals.{Arrival}
 use Rattle.chv_plan.specs.Plans.{Delivery, planned}
+use Rattle.chv_query.specs.Queries.{Asked, divides, made_of}
 use Rattle.chv_types.specs.Steps.{and_then, refuse_if}
+use Rattle.chv_types.specs.declared.value.Value.{Value}
 use Rattle.chv_sip.specs.BlockIds.{id_eq, last_ids}
 use Rattle.chv_sip.specs.declared.block_id.BlockId.{BlockId}
 use Rattle.chv_sip.proofs.LastIds.{last_ids-last_ids}
 use Rattle.chv_history.specs.Built.{is_built}
-use Rattle.chv_history.specs.Events.{Event, Plan, Moment, behind, happen, with_commit}
-use Rattle.chv_history.specs.Histories.{History, ids_in, put_at, window_at, window_in, with_accepted}
-use Rattle.chv_history.specs.Kept.{Kept, IsKeptOf, entries_kept, is_refusal, kept_answer, kept_behind, kept_delivery, kept_plan, kept_task, noted, refuses}
+use Rattle.chv_history.specs.Events.{Event, Plan, Moment, begins, behind, happen, with_commit}
+use Rattle.chv_history.specs.Histories.{History, book_of, ids_in, put_at, window_at, window_in, with_accepted}
+use Rattle.chv_history.specs.Kept.{Kept, IsKeptOf, IsRefused, MayDivide, Refuses, entries_kept, kept_answer, kept_behind, kept_delivery, kept_plan, kept_task, noted}
 use Rattle.chv_history.specs.Runs.{answer_events, delivered, delivery_event, entries_in, request_events, run_events}
 use Rattle.chv_history.specs.Script.{Request}
 use Rattle.chv_history.specs.Tasks.{Task, Bring, Make, TellParts, TellRows, built_task, deliveries_to, has_room, task_of}
+use Rattle.chv_history.specs.Told.{table_rows}
 use Rattle.chv_history.proofs.ArrivingLemmas.{put_at-same, put_at-other}
 use Rattle.chv_history.proofs.CommitLemmas.{arrivals-other, arrivals-with_arrivals, is_skipped, schema-with_commit, with_commit-new, with_commit-skipped}
 use Rattle.chv_history.proofs.LawfulLemmas.{table_cases}
@@ -145,18 +150,38 @@ pub kept_answered : (client : ℕ) (task : Result Task Refusal) (kept : Kept) (m
 kept_answered client (Ok (Make accepted)) kept m is = kept_made accepted kept m.history is
 kept_answered client (Ok (Bring plan)) kept m is =
     subst (λ (n : Moment). IsKeptOf (kept_plan plan kept) n.history) (sym (behind-append (map delivery_event plan) _ m)) (kept_planned plan kept m is)
-kept_answered client (Ok (TellRows table def)) kept m is = is
+kept_answered client (Ok (TellRows query)) kept m is = is
 kept_answered client (Ok (TellParts table def)) kept m is = is
 kept_answered client (Err refuses) kept m is = is
 
--- and marks the moment where it is refused
-pub refused_answered : (client : ℕ) (task : Result Task Refusal) (m : Moment) → (behind (answer_events client task m.history) m).refused ≡ (m.refused || is_refusal task)
-refused_answered client (Ok (Make accepted)) m = refl
-refused_answered client (Ok (Bring plan)) m =
-    ap (λ (n : Moment). n.refused) (behind-append (map delivery_event plan) _ m) ∙ ap (λ (b : Bool). b || false) (deliveries_refused plan m)
-refused_answered client (Ok (TellRows table def)) m = refl
-refused_answered client (Ok (TellParts table def)) m = refl
-refused_answered client (Err refuses) m = refl
+-- a query that divides by zero on one of some rows may divide by zero
+none_is : {A : Type 0} (o : Option A) → is_none o ≡ true → o ≡ None
+none_is None is = refl
+none_is (Some a) is = absurd (cc is)
+
+pub divides_may : (query : Asked) (rows : List (List Value)) → divides query rows ≡ true → MayDivide query
+divides_may query rows is =
+    let some = Any-from_list_any (λ (row : List Value). is_none (made_of query row)) rows is in
+    (some.1, none_is (made_of query some.1) some.4)
+
+-- a moment behind an answer is marked where one was refused before, or this one is
+pub record MarksAnswer (task : Result Task Refusal) (before after : Bool) : Type 0 where
+  pub first : Bool
+  pub marks : after ≡ (before || first)
+  pub is : IsRefused task first
+
+pub refused_answered : (client : ℕ) (task : Result Task Refusal) (m : Moment) → MarksAnswer task m.refused (behind (answer_events client task m.history) m).refused
+refused_answered client (Ok (Make accepted)) m = record { first = false; marks = refl; is = refl }
+refused_answered client (Ok (Bring plan)) m = record {
+  first = false;
+  marks = ap (λ (n : Moment). n.refused) (behind-append (map delivery_event plan) _ m) ∙ ap (λ (b : Bool). b || false) (deliveries_refused plan m);
+  is = refl;
+}
+refused_answered client (Ok (TellRows query)) m =
+    let rows = table_rows (form_of query.def) (book_of m.history query.table) in
+    record { first = divides query rows; marks = refl; is = divides_may query rows }
+refused_answered client (Ok (TellParts table def)) m = record { first = false; marks = refl; is = refl }
+refused_answered client (Err refuses) m = record { first = true; marks = refl; is = refl }
 
 -- numbers of entries that agree on the tables that stand
 abbrev pub Agree : List TableDef → (ℕ → ℕ) → (ℕ → ℕ) → Type 0
@@ -180,7 +205,7 @@ bring_agrees tables one two (Err refuses) agree known = refl
 built_agrees : (tables : List TableDef) (one two : ℕ → ℕ) (asked : Statement) → Agree tables one two → built_task tables one asked ≡ built_task tables two asked
 built_agrees tables one two (statement.CreateTable made) agree = refl
 built_agrees tables one two (statement.Insert brought) agree = bring_agrees tables one two (planned tables brought) agree (planned-within tables brought)
-built_agrees tables one two (statement.Query asked) agree = refl
+built_agrees tables one two (statement.Query select) agree = refl
 built_agrees tables one two (statement.ShowParts asked) agree = refl
 built_agrees tables one two (statement.CreateView asked) agree = refl
 built_agrees tables one two (statement.Optimize asked) agree = refl
@@ -204,10 +229,24 @@ kept_request request kept history is =
     ap (λ (tables : List TableDef). task_of tables (entries_in history) request.statement) (sym is.tables)
     ∙ sym (task_agrees kept.tables (entries_kept kept) (entries_in history) request.statement (kept_agrees kept history is))
 
--- what is held stays that of the history in a run, which refuses a statement exactly where it is refused by what is held
+-- a moment behind requests is marked where one was refused before, or one of them is
+pub record MarksAll (requests : List Request) (kept : Kept) (before after : Bool) : Type 0 where
+  pub later : Bool
+  pub marks : after ≡ (before || later)
+  pub refuses : Refuses requests kept later
+
+marks_more : (request : Request) (requests : List Request) (kept : Kept) (before between after : Bool) → MarksAnswer (kept_answer request kept) before between
+    → MarksAll requests (kept_task (kept_answer request kept) kept) between after → MarksAll (request ∷ requests) kept before after
+marks_more request requests kept before between after one rest = record {
+  later = one.first || rest.later;
+  marks = rest.marks ∙ ap (λ (b : Bool). b || rest.later) one.marks ∙ or_assoc before one.first rest.later;
+  refuses = (one.first, rest.later, refl, one.is, rest.refuses);
+}
+
+-- what is held stays that of the history in a run, which refuses a statement as what is held says
 pub kept_run : (requests : List Request) (kept : Kept) (m : Moment) → IsKeptOf kept m.history
-    → IsKeptOf (kept_behind requests kept) (behind (run_events requests m) m).history × ((behind (run_events requests m) m).refused ≡ (m.refused || refuses requests kept))
-kept_run [] kept m is = (is, or_false m.refused)
+    → IsKeptOf (kept_behind requests kept) (behind (run_events requests m) m).history × MarksAll requests kept m.refused (behind (run_events requests m) m).refused
+kept_run [] kept m is = (is, record { later = false; marks = or_false m.refused; refuses = refl })
 kept_run (request ∷ requests) kept m is =
     let task = kept_request request kept m.history is in
     let events = request_events request m.history in
@@ -215,15 +254,21 @@ kept_run (request ∷ requests) kept m is =
     let next = behind events m in
     let held : IsKeptOf (kept_task (kept_answer request kept) kept) next.history =
     subst (λ (es : List Event). IsKeptOf (kept_task (kept_answer request kept) kept) (behind es m).history) (sym by) (kept_answered request.client (kept_answer request kept) kept m is) in
-    let mark : next.refused ≡ (m.refused || is_refusal (kept_answer request kept)) =
-    ap (λ (es : List Event). (behind es m).refused) by ∙ refused_answered request.client (kept_answer request kept) m in
+    let mark : MarksAnswer (kept_answer request kept) m.refused next.refused =
+    subst (λ (es : List Event). MarksAnswer (kept_answer request kept) m.refused (behind es m).refused) (sym by) (refused_answered request.client (kept_answer request kept) m) in
     let rest = kept_run requests (kept_task (kept_answer request kept) kept) next held in
+    let last = behind (run_events requests next) next in
     let all = behind-cons request requests m in (
       subst (λ (n : Moment). IsKeptOf (kept_behind requests (kept_task (kept_answer request kept) kept)) n.history) (sym all) rest.0,
-      ap (λ (n : Moment). n.refused) all ∙ rest.1
-          ∙ ap (λ (b : Bool). b || refuses requests (kept_task (kept_answer request kept) kept)) mark
-          ∙ or_assoc m.refused (is_refusal (kept_answer request kept)) (refuses requests (kept_task (kept_answer request kept) kept)),
+      subst (λ (n : Moment). MarksAll (request ∷ requests) kept m.refused n.refused) (sym all) (marks_more request requests kept m.refused next.refused last.refused mark rest.1),
     )
+
+-- so it is in a run that begins with nothing refused
+pub kept_begun : (requests : List Request) (kept : Kept) (history : History) → IsKeptOf kept history
+    → IsKeptOf (kept_behind requests kept) (behind (run_events requests (begins history)) (begins history)).history × Refuses requests kept (behind (run_events requests (begins history)) (begins history)).refused
+kept_begun requests kept history is =
+    let all = kept_run requests kept (begins history) is in
+    (all.0, subst (Refuses requests kept) (sym all.1.marks) all.1.refuses)
 
 -- of a new store nothing is held
 pub kept_none : IsKeptOf (record { tables = []; states = λ _. no_state }) (record { schema = []; arrivals = λ _. []; layouts = λ _. [] })

@@ -1,17 +1,20 @@
--- Which table a name names, and that what is planned is for one that stands.
-use Rattle.std.proofs.Common.{◌≡◌, ℕ, zero, suc, ◌+◌, ◌-◌, ◌<◌, ◌≤◌, List, [], ◌∷◌, length, Bool, true, false, Option, None, Some, Ok, Err, IfOk, slice_get, option_map, refl, subst, arith}
+-- Which table a name names, and that what is planned, or asked, is for one that stands.
+use Rattle.std.proofs.Common.{◌≡◌, ℕ, zero, suc, ◌+◌, ◌-◌, ◌<◌, ◌≤◌, List, [], ◌∷◌, length, Bool, true, false, Option, None, Some, Ok, Err, IfOk, slice_get, option_map, refl, sym, ap₂, subst, ◌∙◌, arith}
 use Rattle.std.specs.Prelude.{Result, nat_lt}
 use Rattle.std.specs.List.{All, list_any}
 use Rattle.std.proofs.lemmas.List.Elements.{All-cons, All-nil, All-weaker}
 use Rattle.chv_ast.specs.declared.refusal.Refusal.{Refusal}
 use Rattle.chv_ast.specs.declared.refusal.Refusal.TheVariants.{UnknownTable, UnknownColumn, NameTaken, TypeMismatch, LimitPassed}
 use Rattle.chv_ast.specs.declared.statement.Insert.{Insert}
+use Rattle.chv_ast.specs.declared.statement.Select.{Select}
 use Rattle.chv_catalog.specs.Checks.{has_repeat, is_unknown, is_state, places_of}
+use Rattle.chv_query.specs.Queries.{Asked, asked, asked_of, filter_of, limit_of, outputs_of, sorts_of, columns_of as shown_columns}
+use Rattle.chv_query.specs.Tables.{table_of}
 use Rattle.chv_catalog.specs.Schemas.{names_of, columns_of, kinds_of}
 use Rattle.chv_catalog.specs.declared.table_def.TableDef.{TableDef}
 use Rattle.chv_catalog.proofs.SchemaLemmas.{place_of-within, length-names_of}
 use Rattle.chv_part.specs.Books.{MAX_ROWS}
-use Rattle.chv_plan.specs.Plans.{Delivery, deliveries_of, filled_names, is_long, kinds_at, planned, planned_for, rows_for, sizes_for, table_of}
+use Rattle.chv_plan.specs.Plans.{Delivery, deliveries_of, filled_names, is_long, kinds_at, planned, planned_for, rows_for, sizes_for}
 use Rattle.chv_types.specs.Names.{place_of}
 use Rattle.chv_types.specs.Steps.{refuse_if, and_then}
 use Rattle.chv_types.specs.declared.value.Value.{Value}
@@ -118,3 +121,50 @@ planned-within tables brought =
 -- one table is found
 pub one_found : (p q : ℕ × TableDef) → ◌≡◌ {A = Result (ℕ × TableDef) Refusal} (Ok p) (Ok q) → p ≡ q
 one_found p q same = cc
+
+-- what is found of a name: the number and the definition of a table that stands
+pub record IsFound (tables : List TableDef) (name : List ℕ) (found : ℕ × TableDef) : Type 0 where
+  pub first : 1 ≤ found.0
+  pub last : found.0 ≤ length tables
+  pub stands : slice_get tables (found.0 - 1) ≡ Some found.1
+  pub is : table_of tables name ≡ Ok found
+
+found_by : (tables : List TableDef) (name : List ℕ) (found : ℕ × TableDef) (place : Option ℕ) → place_of name (names_of tables) ≡ place → table_of tables name ≡ Ok found → IsFound tables name found
+found_by tables name found None at is = let none = unnamed_by tables name None at refl in absurd (cc (none, is))
+found_by tables name found (Some place) at is =
+    let named = named_at tables name place at in
+    subst (IsFound tables name) (one_found (place + 1, named.def) found (sym named.is ∙ is))
+    (record { first = named.first; last = named.last; stands = named.stands; is = named.is })
+
+-- a table that is found stands
+pub table_of-found : (tables : List TableDef) (name : List ℕ) (found : ℕ × TableDef) → table_of tables name ≡ Ok found → IsFound tables name found
+table_of-found tables name found is = found_by tables name found (place_of name (names_of tables)) refl is
+
+-- whatever a step gives, what holds of the rest holds of the whole
+if_ok-rest : {A B : Type 0} (r : Result A Refusal) (rest : A → Result B Refusal) (Q : B → Type 0) → ((a : A) → IfOk (rest a) Q) → IfOk (and_then r rest) Q
+if_ok-rest (Ok a) rest Q then = then a
+if_ok-rest (Err refusal) rest Q then = tt
+
+-- a query is asked of this table
+abbrev IsOf : ℕ → TableDef → Asked → Type 0
+IsOf table def query = (query.table ≡ table) × (query.def ≡ def)
+
+asked_of-table : (table : ℕ) (def : TableDef) (select : Select) → IfOk (asked_of table def select) (IsOf table def)
+asked_of-table table def select =
+    if_ok-rest (filter_of def.columns select.filter) _ (IsOf table def)
+    (λ filter. if_ok-rest (outputs_of def.columns select.items) _ (IsOf table def)
+    (λ outputs. if_ok-rest (sorts_of (shown_columns outputs) select.order) _ (IsOf table def)
+    (λ order. if_ok-rest (limit_of select.limit) _ (IsOf table def) (λ limit. (refl, refl)))))
+
+asked_by : (tables : List TableDef) (select : Select) (query : Asked) (found : Result (ℕ × TableDef) Refusal) → table_of tables select.table ≡ found
+    → and_then found (λ f. asked_of f.0 f.1 select) ≡ Ok query → IsFound tables select.table (query.table, query.def)
+asked_by tables select query (Ok found) is asks =
+    let same : IsOf found.0 found.1 query = subst (λ (r : Result Asked Refusal). IfOk r (IsOf found.0 found.1)) asks (asked_of-table found.0 found.1 select) in
+    let pair : ◌≡◌ {A = ℕ × TableDef} found (query.table, query.def) = ap₂ (λ (table : ℕ) (def : TableDef). (table, def)) (sym same.0) (sym same.1) in
+    subst (IsFound tables select.table) pair (table_of-found tables select.table found is)
+asked_by tables select query (Err refusal) is asks = absurd (cc asks)
+
+-- the table of a query is the one that its name finds, and stands
+pub asked_stands : (tables : List TableDef) (select : Select) (query : Asked) → asked tables select ≡ Ok query → IsFound tables select.table (query.table, query.def)
+unfolding asked
+asked_stands tables select query asks = asked_by tables select query (table_of tables select.table) refl asks

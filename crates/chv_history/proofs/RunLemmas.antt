@@ -124,12 +124,12 @@ may_bring asked plan history lawful brings room =
 abbrev pub TaskSound : History → Task → Type 0
 TaskSound history (Make accepted) = (is_built_create accepted.statement ≡ true) × IsAccepted (tables_of history.schema) accepted
 TaskSound history (Bring plan) = MayBring history plan
-TaskSound history (TellRows table def) = Unit {0}
+TaskSound history (TellRows query) = Unit {0}
 TaskSound history (TellParts table def) = Unit {0}
 
 pub sound_task : (request : Request) (history : History) → IsLawful history → IsFormed request → IfOk (task_of (tables_of history.schema) (entries_in history) request.statement) (TaskSound history)
 sound_task request history lawful formed =
-    task_holds (tables_of history.schema) (entries_in history) (TaskSound history) (λ table def. tt) (λ table def. tt) request.statement
+    task_holds (tables_of history.schema) (entries_in history) (TaskSound history) (λ select query asks. tt) (λ table def. tt) request.statement
     (λ made is def built defines. (built, record { formed = formed (statement.CreateTable made) is; defines = defines }))
     (λ brought is plan brings room. may_bring brought plan history lawful brings room)
 
@@ -142,7 +142,7 @@ lawful_task client (Bring plan) done m sound lawful =
     let made = lawful_deliveries plan done m lawful sound in
     let last : IsLawful (behind events m).history = while_last Lawful events done m made in
     while-append Lawful events _ done m made (last, last)
-lawful_task client (TellRows table def) done m sound lawful = (lawful, lawful)
+lawful_task client (TellRows query) done m sound lawful = (lawful, lawful)
 lawful_task client (TellParts table def) done m sound lawful = (lawful, lawful)
 
 lawful_answer : (client : ℕ) (task : Result Task Refusal) (done : List Event) (m : Moment) → IfOk task (TaskSound m.history) → IsLawful m.history → While Lawful done (answer_events client task m.history) m

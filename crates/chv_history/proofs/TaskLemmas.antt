@@ -4,20 +4,24 @@ use Rattle.chv_ast.specs.declared.refusal.Refusal.{Refusal}
 use Rattle.chv_ast.specs.declared.refusal.Refusal.TheVariants.{LimitPassed, NotBuilt}
 use Rattle.chv_ast.specs.declared.statement.CreateTable.{CreateTable}
 use Rattle.chv_ast.specs.declared.statement.Insert.{Insert}
+use Rattle.chv_ast.specs.declared.statement.Select.{Select}
 use Rattle.chv_ast.specs.declared.statement.Statement.{Statement}
 use Rattle.chv_ast.specs.declared.statement.Statement.TheVariants as statement
 use Rattle.chv_catalog.specs.declared.table_def.TableDef.{TableDef}
 use Rattle.chv_define.specs.Accepted.{Table, is_built_table}
 use Rattle.chv_define.specs.Definitions.{defined}
-use Rattle.chv_plan.specs.Plans.{planned, table_of}
+use Rattle.chv_query.specs.Tables.{table_of}
+use Rattle.chv_plan.specs.Plans.{planned}
+use Rattle.chv_query.specs.Queries.{Asked, asked}
 use Rattle.chv_types.specs.Steps.{and_then, refuse_if}
 use Rattle.chv_history.specs.Built.{is_built}
 use Rattle.chv_history.specs.Events.{Plan}
 use Rattle.chv_history.specs.Tasks.{Task, Bring, Make, TellParts, TellRows, built_task, has_room, task_of}
 
 -- a fact of each task holds of the one of a statement: of a table that the statement makes; of blocks that it brings, for which
--- there is room; and of a table that it tells
-module _ (tables : List TableDef) (entries : ℕ → ℕ) (Holds : Task → Type 0) (rows : (table : ℕ) (def : TableDef) → Holds (TellRows table def)) (parts : (table : ℕ) (def : TableDef) → Holds (TellParts table def)) where
+-- there is room; of a query whose rows it tells; and of a table whose parts it tells
+module _ (tables : List TableDef) (entries : ℕ → ℕ) (Holds : Task → Type 0)
+    (rows : (select : Select) (query : Asked) → asked tables select ≡ Ok query → Holds (TellRows query)) (parts : (table : ℕ) (def : TableDef) → Holds (TellParts table def)) where
   abbrev Makes : CreateTable → Type 0
   Makes made = (def : TableDef) → is_built_table made ≡ true → defined tables made ≡ Ok def → Holds (Make (record { statement = statement.CreateTable made; definition = Table def }))
 
@@ -37,9 +41,9 @@ module _ (tables : List TableDef) (entries : ℕ → ℕ) (Holds : Task → Type
   brought_by brought (Ok plan) brings bring = room_by (has_room plan entries) brought plan refl brings bring
   brought_by brought (Err refuses) brings bring = tt
 
-  rows_by : (found : Result (ℕ × TableDef) Refusal) → IfOk (and_then found (λ f. Ok (TellRows f.0 f.1))) Holds
-  rows_by (Ok found) = rows found.0 found.1
-  rows_by (Err refuses) = tt
+  rows_by : (select : Select) (query : Result Asked Refusal) → asked tables select ≡ query → IfOk (and_then query (λ q. Ok (TellRows q))) Holds
+  rows_by select (Ok query) asks = rows select query asks
+  rows_by select (Err refuses) asks = tt
 
   parts_by : (found : Result (ℕ × TableDef) Refusal) → IfOk (and_then found (λ f. Ok (TellParts f.0 f.1))) Holds
   parts_by (Ok found) = parts found.0 found.1
@@ -55,18 +59,18 @@ module _ (tables : List TableDef) (entries : ℕ → ℕ) (Holds : Task → Type
   unfolding is_built
   built_by (statement.CreateTable made) built make bring = made_by made (defined tables made) refl built (make made refl)
   built_by (statement.Insert brought) built make bring = brought_by brought (planned tables brought) refl (bring brought refl)
-  built_by (statement.Query asked) built make bring = rows_by (table_of tables asked.table)
-  built_by (statement.ShowParts asked) built make bring = parts_by (table_of tables asked.table)
-  built_by (statement.CreateView asked) built make bring = tt
-  built_by (statement.Optimize asked) built make bring = tt
+  built_by (statement.Query select) built make bring = rows_by select (asked tables select) refl
+  built_by (statement.ShowParts parts) built make bring = parts_by (table_of tables parts.table)
+  built_by (statement.CreateView made) built make bring = tt
+  built_by (statement.Optimize parts) built make bring = tt
   built_by statement.FlushQueue built make bring = tt
 
   checked_by : (b : Bool) (s : Statement) → is_built s ≡ b → MakesOf s → BringsOf s → IfOk (refuse_if (not b) NotBuilt (built_task tables entries s)) Holds
   checked_by true s built make bring = built_by s built make bring
   checked_by false s built make bring = tt
 
-  pub task_holds : (asked : Option Statement)
-      → ((made : CreateTable) → asked ≡ Some (statement.CreateTable made) → Makes made) → ((brought : Insert) → asked ≡ Some (statement.Insert brought) → Brings brought)
-      → IfOk (task_of tables entries asked) Holds
+  pub task_holds : (s : Option Statement)
+      → ((made : CreateTable) → s ≡ Some (statement.CreateTable made) → Makes made) → ((brought : Insert) → s ≡ Some (statement.Insert brought) → Brings brought)
+      → IfOk (task_of tables entries s) Holds
   task_holds None make bring = tt
   task_holds (Some s) make bring = checked_by (is_built s) s refl (λ made is. make made (ap Some is)) (λ brought is. bring brought (ap Some is))

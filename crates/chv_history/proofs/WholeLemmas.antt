@@ -17,6 +17,7 @@ use Rattle.chv_part.proofs.BookLemmas.{All-fresh}
 use Rattle.chv_plan.specs.Arrivals.{Arrival, IsArrival, arrival_of, entry_in}
 use Rattle.chv_plan.specs.Plans.{Delivery}
 use Rattle.chv_plan.proofs.ArrivalLemmas.{ArrivesIn}
+use Rattle.chv_query.specs.Queries.{divides}
 use Rattle.chv_sip.specs.BlockIds.{SourceKey, Content, Token}
 use Rattle.chv_sip.specs.declared.block_id.BlockId.{BlockId}
 use Rattle.chv_text.specs.Replies.{ok_line, refused_line}
@@ -27,7 +28,7 @@ use Rattle.chv_history.specs.Histories.{History, IsLawful, book_of, ids_in, wind
 use Rattle.chv_history.specs.Runs.{answer_events, delivery_event, entries_in, request_events, run_events, task_events}
 use Rattle.chv_history.specs.Script.{Request, AreFormed, IsFormed}
 use Rattle.chv_history.specs.Tasks.{Task, Bring, Make, TellParts, TellRows, task_of}
-use Rattle.chv_history.specs.Told.{parts_text, shown_text}
+use Rattle.chv_history.specs.Told.{parts_text, query_text, table_rows}
 use Rattle.chv_history.proofs.AcknowledgedLemmas.{Holding}
 use Rattle.chv_history.proofs.CommitLemmas.{arrivals-with_commit, arrivals-other, schema-with_commit}
 use Rattle.chv_history.proofs.LawfulLemmas.{form_there}
@@ -164,7 +165,9 @@ brought_task client (Bring plan) done m brought =
     All-weaker (λ (d : Delivery). Contains (brought_by d.table events) d.entry) (λ (d : Delivery). Contains (brought_by d.table (done ++ events)) d.entry)
     (λ d is. subst (λ (l : List Arrival). Contains l d.entry) (sym (brought_by-append d.table done events)) (Contains-append_right (brought_by d.table done) (brought_by d.table events) d.entry is)) plan (plan_brought plan) in
     while-append Brought events _ done m made (before, brought_more (done ++ events) _ (last.acknowledged ++ plan ∷ []) (All-push (IsBrought (done ++ events)) last.acknowledged plan before here))
-brought_task client (TellRows table def) done m brought = brought_reply (shown_text client (form_of def) (book_of m.history table)) false done m brought
+brought_task client (TellRows query) done m brought =
+    let rows = table_rows (form_of query.def) (book_of m.history query.table) in
+    brought_reply (query_text client query rows) (divides query rows) done m brought
 brought_task client (TellParts table def) done m brought = brought_reply (parts_text client (form_of def) (book_of m.history table)) false done m brought
 
 brought_answer : (client : ℕ) (task : Result Task Refusal) (done : List Event) (m : Moment) → Brought done m → While Brought done (answer_events client task m.history) m
@@ -232,7 +235,9 @@ arriving_task client (Bring plan) done m sound arriving =
     let before : All Arrives last.acknowledged = while_last Arriving events done m made in
     let here : Arrives plan = subst (λ (s : List Accepted). All (ArrivesIn (tables_of s)) plan) (sym (schema-deliveries plan m)) sound.arrive in
     while-append Arriving events _ done m made (before, All-push Arrives last.acknowledged plan before here)
-arriving_task client (TellRows table def) done m sound arriving = arriving_reply (shown_text client (form_of def) (book_of m.history table)) false done m arriving
+arriving_task client (TellRows query) done m sound arriving =
+    let rows = table_rows (form_of query.def) (book_of m.history query.table) in
+    arriving_reply (query_text client query rows) (divides query rows) done m arriving
 arriving_task client (TellParts table def) done m sound arriving = arriving_reply (parts_text client (form_of def) (book_of m.history table)) false done m arriving
 
 arriving_answer : (client : ℕ) (task : Result Task Refusal) (done : List Event) (m : Moment) → IfOk task (TaskSound m.history) → Arriving done m → While Arriving done (answer_events client task m.history) m

@@ -1,5 +1,5 @@
 -- What a run does with the numbers that it holds of its tables, whatever the files hold.
-use Rattle.std.specs.Prelude.{ℕ, ◌≡◌, ◌+◌, Bool, true, false, ◌||◌, List, [], ◌∷◌, ◌++◌, length, if◌then◌else◌, Some, Result, Ok, Err, slice_get}
+use Rattle.std.specs.Prelude.{ℕ, ◌≡◌, ◌+◌, Bool, true, false, ◌||◌, List, [], ◌∷◌, ◌++◌, length, if◌then◌else◌, None, Some, Result, Ok, Err, slice_get}
 use Rattle.std.specs.List.{list_any}
 use Rattle.chv_ast.specs.declared.refusal.Refusal.{Refusal}
 use Rattle.chv_catalog.specs.declared.table_def.TableDef.{TableDef}
@@ -7,6 +7,8 @@ use Rattle.chv_commit.specs.Replays.{State, no_state, added}
 use Rattle.chv_define.specs.Accepted.{tables_in, tables_of}
 use Rattle.chv_plan.specs.Arrivals.{Arrival}
 use Rattle.chv_plan.specs.Plans.{Delivery}
+use Rattle.chv_query.specs.Queries.{Asked, made_of}
+use Rattle.chv_types.specs.declared.value.Value.{Value}
 use Rattle.chv_sip.specs.BlockIds.{id_eq, last_ids}
 use Rattle.chv_history.specs.Events.{Plan}
 use Rattle.chv_history.specs.Histories.{History, ids_in, window_at, put_at}
@@ -39,7 +41,7 @@ abbrev pub kept_task : Result Task Refusal → Kept → Kept
 kept_task (Ok (Make accepted)) kept =
     record { tables = kept.tables ++ tables_in accepted.definition; states = put_at (length kept.tables + 1) no_state kept.states }
 kept_task (Ok (Bring plan)) kept = kept_plan plan kept
-kept_task (Ok (TellRows table def)) kept = kept
+kept_task (Ok (TellRows query)) kept = kept
 kept_task (Ok (TellParts table def)) kept = kept
 kept_task (Err refuses) kept = kept
 
@@ -56,14 +58,24 @@ abbrev pub kept_behind : List Request → Kept → Kept
 kept_behind [] kept = kept
 kept_behind (request ∷ requests) kept = kept_behind requests (kept_task (kept_answer request kept) kept)
 
-abbrev pub is_refusal : Result Task Refusal → Bool
-is_refusal (Ok task) = false
-is_refusal (Err refuses) = true
+-- a query divides by zero on some row
+abbrev pub MayDivide : Asked → Type 0
+MayDivide query = (row : List Value) × (made_of query row ≡ None)
 
--- one of some requests that are answered in order is refused
-abbrev pub refuses : List Request → Kept → Bool
-refuses [] kept = false
-refuses (request ∷ requests) kept = is_refusal (kept_answer request kept) || refuses requests (kept_task (kept_answer request kept) kept)
+-- whether a statement is refused, by what its check says; of a query without refusal the rows decide, where it may divide by zero
+abbrev pub IsRefused : Result Task Refusal → Bool → Type 0
+IsRefused (Err refuses) refused = refused ≡ true
+IsRefused (Ok (TellRows query)) refused = refused ≡ true → MayDivide query
+IsRefused (Ok (Make accepted)) refused = refused ≡ false
+IsRefused (Ok (Bring plan)) refused = refused ≡ false
+IsRefused (Ok (TellParts table def)) refused = refused ≡ false
+
+-- whether one of some requests that are answered in order is refused
+abbrev pub Refuses : List Request → Kept → Bool → Type 0
+Refuses [] kept refused = refused ≡ false
+Refuses (request ∷ requests) kept refused =
+    (first later : Bool) × (refused ≡ (first || later)) × IsRefused (kept_answer request kept) first
+    × Refuses requests (kept_task (kept_answer request kept) kept) later
 
 -- what is held is that of a history: its tables, and of each as many entries, and the last of their ids
 pub record IsKeptOf (kept : Kept) (history : History) : Type 0 where

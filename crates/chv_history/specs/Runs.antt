@@ -4,12 +4,13 @@ use Rattle.chv_ast.specs.declared.refusal.Refusal.{Refusal}
 use Rattle.chv_define.specs.Accepted.{tables_of}
 use Rattle.chv_part.specs.Forms.{form_of}
 use Rattle.chv_plan.specs.Plans.{Delivery}
+use Rattle.chv_query.specs.Queries.{divides}
 use Rattle.chv_text.specs.Replies.{ok_line, insert_line, refused_line}
 use Rattle.chv_history.specs.Events.{Plan, Event, Created, Committed, Replied, Moment, written_in, with_commit, behind}
 use Rattle.chv_history.specs.Histories.{History, book_of}
 use Rattle.chv_history.specs.Script.{Request}
 use Rattle.chv_history.specs.Tasks.{Task, Make, Bring, TellRows, TellParts, task_of}
-use Rattle.chv_history.specs.Told.{shown_text, parts_text}
+use Rattle.chv_history.specs.Told.{parts_text, query_text, table_rows}
 
 -- a delivery is one commit
 abbrev pub delivery_event : Delivery → Event
@@ -34,7 +35,9 @@ insert_events client plan history =
 abbrev pub task_events : ℕ → Task → History → List Event
 task_events client (Make accepted) history = Created accepted ∷ Replied (ok_line client) [] false ∷ []
 task_events client (Bring plan) history = insert_events client plan history
-task_events client (TellRows table def) history = Replied (shown_text client (form_of def) (book_of history table)) [] false ∷ []
+task_events client (TellRows query) history =
+    let rows = table_rows (form_of query.def) (book_of history query.table) in
+    Replied (query_text client query rows) [] (divides query rows) ∷ []
 task_events client (TellParts table def) history = Replied (parts_text client (form_of def) (book_of history table)) [] false ∷ []
 
 -- the events of a client's statement: those of its task, or its refusal

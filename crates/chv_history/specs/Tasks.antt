@@ -9,17 +9,19 @@ use Rattle.chv_catalog.specs.declared.table_def.TableDef.{TableDef}
 use Rattle.chv_commit.specs.Replays.{MAX_ENTRIES}
 use Rattle.chv_define.specs.Accepted.{Accepted, Table}
 use Rattle.chv_define.specs.Definitions.{defined}
-use Rattle.chv_plan.specs.Plans.{Delivery, planned, table_of}
+use Rattle.chv_query.specs.Tables.{table_of}
+use Rattle.chv_plan.specs.Plans.{Delivery, planned}
+use Rattle.chv_query.specs.Queries.{Asked, asked}
 use Rattle.chv_types.specs.Steps.{and_then, refuse_if}
 use Rattle.chv_history.specs.Built.{is_built}
 use Rattle.chv_history.specs.Events.{Plan}
 
--- what a store does: it makes a table; it brings blocks; or it tells the rows, or the parts, of the table of this number and
--- this definition
+-- what a store does: it makes a table; it brings blocks; it tells the rows of a query, or the parts of the table of this number
+-- and this definition
 pub data Task : Type 0 where
   Make : Accepted → Task
   Bring : Plan → Task
-  TellRows : ℕ → TableDef → Task
+  TellRows : Asked → Task
   TellParts : ℕ → TableDef → Task
 
 -- how many deliveries go to a table
@@ -37,7 +39,7 @@ built_task tables entries (statement.CreateTable made) =
     and_then (defined tables made) (λ def. Ok (Make (record { statement = statement.CreateTable made; definition = Table def })))
 built_task tables entries (statement.Insert brought) =
     and_then (planned tables brought) (λ plan. refuse_if (not (has_room plan entries)) LimitPassed (Ok (Bring plan)))
-built_task tables entries (statement.Query asked) = and_then (table_of tables asked.table) (λ found. Ok (TellRows found.0 found.1))
+built_task tables entries (statement.Query select) = and_then (asked tables select) (λ query. Ok (TellRows query))
 built_task tables entries (statement.ShowParts asked) = and_then (table_of tables asked.table) (λ found. Ok (TellParts found.0 found.1))
 built_task tables entries other = Err NotBuilt
 

@@ -1,9 +1,11 @@
 -- What is said of a table's rows and parts.
-use Rattle.std.specs.Prelude.{ℕ, pos, List, [], ◌∷◌, ◌++◌, length, map}
+use Rattle.std.specs.Prelude.{ℕ, pos, List, [], ◌∷◌, ◌++◌, length, map, if◌then◌else◌}
 use Rattle.chv_commit.specs.Replays.{Span}
-use Rattle.chv_merge.specs.NormalForms.{normal_form}
+use Rattle.chv_ast.specs.declared.refusal.Refusal.TheVariants.{DivisionByZero}
 use Rattle.chv_part.specs.Books.{TableForm, Book, normal_rows, rows_in, part_rows}
-use Rattle.chv_text.specs.Replies.{rows_line}
+use Rattle.chv_query.specs.Queries.{Asked, divides}
+use Rattle.chv_query.specs.Shown.{kinds_shown, shown_of}
+use Rattle.chv_text.specs.Replies.{refused_line, rows_line}
 use Rattle.chv_text.specs.Rows.{rows_text}
 use Rattle.chv_types.specs.declared.kind.Kind.{Kind}
 use Rattle.chv_types.specs.declared.kind.Kind.TheVariants.{Plain}
@@ -11,13 +13,17 @@ use Rattle.chv_types.specs.declared.kind.Scalar.TheVariants.{UInt64}
 use Rattle.chv_types.specs.declared.value.Value.{Value}
 use Rattle.chv_types.specs.declared.value.Value.TheVariants.{Whole}
 
--- what a SELECT of all columns shows: all rows of a table of this form, in the order of their values
-unfoldable pub answer_of : TableForm → Book → List (List Value)
-answer_of form book = normal_form [] (normal_rows form (rows_in book))
+-- all rows of a table of this form, as it keeps them
+abbrev pub table_rows : TableForm → Book → List (List Value)
+table_rows form book = normal_rows form (rows_in book)
 
--- what is said to a client for all rows of a table
-abbrev pub shown_text : ℕ → TableForm → Book → List ℕ
-shown_text client form book = rows_text form.kinds (answer_of form book) ++ rows_line client (length (answer_of form book))
+-- what is said to a client for a query over the rows of its table
+abbrev pub shown_text : ℕ → Asked → List (List Value) → List ℕ
+shown_text client query rows = rows_text (kinds_shown query) (shown_of query rows) ++ rows_line client (length (shown_of query rows))
+
+-- what is said to a client for a query: where a divisor is zero on a row of its table, that it is refused
+unfoldable pub query_text : ℕ → Asked → List (List Value) → List ℕ
+query_text client query rows = if divides query rows then refused_line client DivisionByZero else shown_text client query rows
 
 -- a live part as SHOW PARTS tells it: its first entry and its last, its level, and its rows
 abbrev pub part_told : TableForm → Book → Span → List Value

@@ -6,7 +6,7 @@ ghost use Rattle.chv_history.specs.Acknowledged.{IsAcknowledged, IsHeld, IsWhole
 ghost use Rattle.chv_history.specs.Crashes.{IsLeftBy};
 ghost use Rattle.chv_history.specs.Events.{Event, Replied, Plan, Moment, begins, behind};
 ghost use Rattle.chv_history.specs.Histories.{History, IsLawful};
-ghost use Rattle.chv_history.specs.Kept.{Kept, IsKeptOf, kept_behind, refuses};
+ghost use Rattle.chv_history.specs.Kept.{Kept, IsKeptOf, Refuses, kept_behind};
 ghost use Rattle.chv_history.specs.Runs.{run_events};
 ghost use Rattle.chv_history.specs.Script.{Request, AreFormed};
 ghost use Rattle.chv_history.specs.Spaced.{AreSpaced};
@@ -46,10 +46,9 @@ pub fn law_spaced()
         → run_events requests (begins history) ≡ done ++ left → IsLawful (behind done (begins history)).history }
 {}
 
-/// Where what is held is that of a history, it stays so in a run, which refuses a statement exactly where it is refused by what
-/// is held.
+/// Where what is held is that of a history, it stays so in a run, which refuses a statement as what is held says.
 pub fn law_kept()
     ensures { (requests : List Request) (kept : Kept) (history : History) → IsKeptOf kept history
         → IsKeptOf (kept_behind requests kept) (behind (run_events requests (begins history)) (begins history)).history
-        × ((behind (run_events requests (begins history)) (begins history)).refused ≡ refuses requests kept) }
+        × Refuses requests kept (behind (run_events requests (begins history)) (begins history)).refused }
 {}

@@ -16,6 +16,7 @@ use Rattle.chv_block.specs.Spellings.{IsOf, AreOf, AllAreOf}
 use Rattle.chv_block.specs.declared.squasher.Sizes.{Sizes}
 use Rattle.chv_catalog.proofs.StepLemmas.{and_then-Ok, refuse_if-Ok}
 use Rattle.chv_catalog.specs.Checks.{has_repeat, is_state, is_unknown, places_of}
+use Rattle.chv_query.specs.Tables.{table_of}
 use Rattle.chv_catalog.specs.Schemas.{names_of, columns_of, kinds_of}
 use Rattle.chv_catalog.specs.declared.table_def.TableDef.{TableDef}
 use Rattle.chv_part.specs.Books.{MAX_ROWS}
@@ -36,7 +37,7 @@ use Rattle.chv_plan.specs.Arrivals.{IsArrival}
 use Rattle.chv_plan.specs.Blocks.{AreBlocks}
 use Rattle.chv_plan.specs.Literals.{literal_value, or_bad, truth_value, whole_text, whole_value}
 use Rattle.chv_plan.specs.Places.{ArePlaces, written}
-use Rattle.chv_plan.specs.Plans.{Delivery, deliveries_of, filled_names, is_long, kinds_at, planned, planned_for, row_for, rows_for, setting_in, sized_rows, sizes_for, table_of, value_for}
+use Rattle.chv_plan.specs.Plans.{Delivery, deliveries_of, filled_names, is_long, kinds_at, planned, planned_for, row_for, rows_for, setting_in, sized_rows, sizes_for, value_for}
 use Rattle.chv_plan.proofs.JoinLemmas.{AreBlocks-blocks_of}
 use Rattle.chv_plan.proofs.LiteralLemmas.{value_of_kind}
 use Rattle.chv_plan.proofs.PlaceLemmas.{column_places}

@@ -8,6 +8,7 @@ use Rattle.chv_ast.specs.declared.refusal.Refusal.{Refusal}
 use Rattle.chv_ast.specs.declared.refusal.Refusal.TheVariants.{UnknownTable, UnknownColumn, NameTaken, TypeMismatch, LimitPassed}
 use Rattle.chv_block.specs.Blocks.{blocks_of}
 use Rattle.chv_block.specs.declared.squasher.Sizes.{Sizes}
+use Rattle.chv_query.specs.Tables.{table_of}
 use Rattle.chv_catalog.specs.Schemas.{kinds_of, names_of}
 use Rattle.chv_catalog.specs.declared.table_def.TableDef.{TableDef}
 use Rattle.chv_part.specs.Books.{MAX_ROWS}
@@ -21,7 +22,7 @@ use Rattle.chv_plan.proofs.HeldLemmas.{held-tables, held-count}
 use Rattle.chv_plan.proofs.JoinLemmas.{length-AreBlocks, AreBlocks-more}
 use Rattle.chv_plan.specs.Blocks.{AreBlocks, HoldsAll, Brings}
 use Rattle.chv_plan.specs.Places.{filled_places}
-use Rattle.chv_plan.specs.Plans.{Delivery, DeliversAll, deliveries_of, is_long, planned, planned_for, rows_for, sized_rows, sizes_for, source_of, table_of}
+use Rattle.chv_plan.specs.Plans.{Delivery, DeliversAll, deliveries_of, is_long, planned, planned_for, rows_for, sized_rows, sizes_for, source_of}
 use Rattle.chv_plan.specs.declared.delivery.Delivery.{Delivery as Held}
 
 -- checks that refuse nothing leave what follows them

@@ -3,11 +3,12 @@ use Rattle.std.specs.Prelude.{ℕ, Bool, false, ◌≡◌, ◌+◌, ◌-◌, ◌
 use Rattle.std.specs.List.{filter_map, list_any}
 use Rattle.chv_ast.specs.declared.expr.Literal.{Literal}
 use Rattle.chv_ast.specs.declared.refusal.Refusal.{Refusal}
-use Rattle.chv_ast.specs.declared.refusal.Refusal.TheVariants.{UnknownTable, UnknownColumn, NameTaken, TypeMismatch, WrongWidth, LimitPassed}
+use Rattle.chv_ast.specs.declared.refusal.Refusal.TheVariants.{UnknownColumn, NameTaken, TypeMismatch, WrongWidth, LimitPassed}
 use Rattle.chv_ast.specs.declared.statement.Insert.{Insert}
 use Rattle.chv_ast.specs.declared.statement.Settings.{Settings}
 use Rattle.chv_catalog.specs.Checks.{has_repeat, is_unknown, is_state, number_within, places_of}
-use Rattle.chv_catalog.specs.Schemas.{names_of, columns_of, kinds_of}
+use Rattle.chv_query.specs.Tables.{table_of}
+use Rattle.chv_catalog.specs.Schemas.{columns_of, kinds_of}
 use Rattle.chv_catalog.specs.declared.table_def.TableDef.{TableDef}
 use Rattle.chv_block.specs.Blocks.{Sized, blocks_of}
 use Rattle.chv_block.specs.Spellings.{row_spelling, block_spelling}
@@ -16,8 +17,7 @@ use Rattle.chv_part.specs.Books.{MAX_ROWS}
 use Rattle.chv_part.specs.Forms.{form_of}
 use Rattle.chv_part.specs.Parts.{part_file}
 use Rattle.chv_sip.specs.BlockIds.{SourceKey, Content, Token}
-use Rattle.chv_types.specs.Names.{place_of}
-use Rattle.chv_types.specs.Steps.{refuse_if, and_then, or_refuse}
+use Rattle.chv_types.specs.Steps.{refuse_if, and_then}
 use Rattle.chv_types.specs.Values.{default_of}
 use Rattle.chv_types.specs.declared.kind.Kind.{Kind}
 use Rattle.chv_types.specs.declared.kind.Kind.TheVariants as kind
@@ -122,12 +122,6 @@ planned_for table def insert =
     (refuse_if (nat_lt MAX_ROWS (length insert.rows)) LimitPassed
     (and_then (rows_for (kinds_of def) places insert.rows) (λ written.
     Ok (deliveries_of table def insert.settings.token 0 (blocks_of sizes (sized_rows (kinds_of def) written))))))))))
-
--- the table of a name, and its number
-abbrev pub table_of : List TableDef → List ℕ → Result (ℕ × TableDef) Refusal
-table_of tables name =
-    and_then (or_refuse UnknownTable (place_of name (names_of tables))) (λ place.
-    and_then (or_refuse UnknownTable (slice_get tables place)) (λ def. Ok (place + 1, def)))
 
 -- what an INSERT brings, in order, or the first check that refuses it
 unfoldable pub planned : List TableDef → Insert → Result (List Delivery) Refusal

@@ -1,7 +1,7 @@
 -- A statement is answered by its form, where it is built.
 use Rattle.std.proofs.Common.{List, ℕ, Some, sym, ap, ◌∙◌}
 use Rattle.chv_ast.specs.declared.refusal.Refusal.TheVariants.{NotBuilt}
-use Rattle.chv_engine.specs.Answers.{create_wish, insert_wish, parts_wish, rows_wish, statement_wish}
+use Rattle.chv_engine.specs.Answers.{create_wish, insert_wish, parts_wish, query_wish, statement_wish}
 use Rattle.chv_engine.proofs.AnswerLemmas.{holds_itself, refused_answers, same_wish}
 use Rattle.chv_engine.proofs.KnownLemmas.{built_create, built_form, known_create, known_insert, known_parts, known_query, known_unbuilt}
 use Rattle.chv_engine.proofs.answer.answer_statement.Goals as goal
@@ -34,18 +34,16 @@ pub returns-in-Query : goal.returns-in-Query
 returns-in-Query g c =
     let store = c.args.store.now in
     let asked = c.args.statement.now in
-    same_wish g.W.Site.tells c.args.client (rows_wish c.as_slice.result.now) (statement_wish (Some asked)) c.select.result store store (g.W.Site.outside c.args.site.now) (g.W.Site.outside c.select.new.site)
-    (λ entries.
-    ap (λ (name : List ℕ). rows_wish name store.schema.tables entries) c.as_slice.ensures
-    ∙ known_query asked store.schema.tables entries _ (sym c.is_built.ensures ∙ c.if-not-is_built.false) c.in-Query.is) c.select.ensures
+    same_wish g.W.Site.tells c.args.client (query_wish c.in-Query.asked) (statement_wish (Some asked)) c.select.result store store (g.W.Site.outside c.args.site.now) (g.W.Site.outside c.select.new.site)
+    (λ entries. known_query asked store.schema.tables entries _ (sym c.is_built.ensures ∙ c.if-not-is_built.false) c.in-Query.is) c.select.ensures
 
 pub returns-in-ShowParts : goal.returns-in-ShowParts
 returns-in-ShowParts g c =
     let store = c.args.store.now in
     let asked = c.args.statement.now in
-    same_wish g.W.Site.tells c.args.client (parts_wish c.as_slice-in-ShowParts.result.now) (statement_wish (Some asked)) c.show_parts.result store store (g.W.Site.outside c.args.site.now) (g.W.Site.outside c.show_parts.new.site)
+    same_wish g.W.Site.tells c.args.client (parts_wish c.as_slice.result.now) (statement_wish (Some asked)) c.show_parts.result store store (g.W.Site.outside c.args.site.now) (g.W.Site.outside c.show_parts.new.site)
     (λ entries.
-    ap (λ (name : List ℕ). parts_wish name store.schema.tables entries) c.as_slice-in-ShowParts.ensures
+    ap (λ (name : List ℕ). parts_wish name store.schema.tables entries) c.as_slice.ensures
     ∙ known_parts asked store.schema.tables entries _ (sym c.is_built.ensures ∙ c.if-not-is_built.false) c.in-ShowParts.is) c.show_parts.ensures
 
 pub returns-in_default : goal.returns-in_default

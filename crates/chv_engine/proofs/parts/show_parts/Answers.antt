@@ -7,7 +7,7 @@ use Rattle.chv_ast.specs.declared.refusal.Refusal.TheVariants.{UnknownTable}
 use Rattle.chv_catalog.specs.declared.schema.Schema.{Schema}
 use Rattle.chv_catalog.specs.declared.table_def.TableDef.{TableDef}
 use Rattle.chv_types.specs.Steps.{and_then}
-use Rattle.chv_plan.specs.Plans.{table_of}
+use Rattle.chv_query.specs.Tables.{table_of}
 use Rattle.chv_history.specs.Tasks.{TellParts}
 use Rattle.chv_history.proofs.LookupLemmas.{IsNamed, table_of-known, table_of-none}
 use Rattle.chv_engine.specs.Answers.{parts_wish}

@@ -1,29 +1,44 @@
--- The rows of the table of this name are shown, or no table has it.
-use Rattle.std.proofs.Common.{◌≡◌, ℕ, Ok, Err, sym, ap, subst, ◌∙◌}
+-- The query that is prepared is answered, or a check refuses it.
+use Rattle.std.proofs.Common.{◌≡◌, Ok, Err, sym, ap, subst}
 use Rattle.std.specs.Prelude.{Result}
 use Rattle.chv_ast.specs.declared.refusal.Refusal.{Refusal}
-use Rattle.chv_ast.specs.declared.refusal.Refusal.TheVariants.{UnknownTable}
+use Rattle.chv_catalog.specs.declared.fault.StatementFault.{StatementFault}
 use Rattle.chv_catalog.specs.declared.schema.Schema.{Schema}
-use Rattle.chv_catalog.specs.declared.table_def.TableDef.{TableDef}
+use Rattle.chv_query.specs.Bound.{AnswersAs}
+use Rattle.chv_query.specs.Queries.{Asked, asked}
+use Rattle.chv_select.specs.Answers.{IsPrepared}
 use Rattle.chv_types.specs.Steps.{and_then}
-use Rattle.chv_plan.specs.Plans.{table_of}
 use Rattle.chv_history.specs.Tasks.{TellRows}
-use Rattle.chv_history.proofs.LookupLemmas.{IsNamed, table_of-known, table_of-none}
-use Rattle.chv_engine.specs.Answers.{rows_wish}
-use Rattle.chv_engine.proofs.AnswerLemmas.{holds_itself, refused_answers, same_wish}
-use Rattle.chv_engine.proofs.ShownLemmas.{whole_table}
+use Rattle.chv_engine.specs.Answers.{query_wish}
+use Rattle.chv_engine.proofs.AnswerLemmas.{holds_itself, no_memory_answers, refused_answers, same_wish}
+use Rattle.chv_engine.proofs.ShownLemmas.{asked_of_store, rows_wish}
 use Rattle.chv_engine.proofs.select.select.Goals as goal
 
-pub returns-in-Some : goal.returns-in-Some
-returns-in-Some g c =
-    let store = c.args.store.now in
-    let named = subst (λ (schema : Schema). IsNamed schema.tables c.args.name.now c.in-Some.number) c.schema.ensures (table_of-known c.schema.result.now.tables c.args.name.now c.in-Some.number (sym c.table.ensures ∙ c.in-Some.is)) in
-    same_wish g.W.Site.tells c.args.client (whole_table c.in-Some.number named.def) (rows_wish c.args.name.now) c.show.result store store (g.W.Site.outside c.args.site.now) (g.W.Site.outside c.show.new.site)
-    (λ entries. sym (ap (λ (found : Result (ℕ × TableDef) Refusal). and_then found (λ f. Ok (TellRows f.0 f.1))) named.is)) (c.show.ensures named.def named.stands)
+pub show-requires-clause-prepared : goal.show-requires-clause-prepared
+show-requires-clause-prepared g c =
+    let given = c.in-Ok.ensures in
+    let asks = subst (λ (schema : Schema). asked schema.tables c.args.select.now ≡ Ok given.0) c.schema.ensures given.1 in
+    (given.0, given.2, asked_of_store c.args.store.now c.args.select.now given.0 asks)
 
-pub returns-in-None : goal.returns-in-None
-returns-in-None g c =
+pub returns-in-Ok : goal.returns-in-Ok
+returns-in-Ok g c =
     let store = c.args.store.now in
-    let none = subst (λ (schema : Schema). table_of schema.tables c.args.name.now ≡ Err UnknownTable) c.schema.ensures (table_of-none c.schema.result.now.tables c.args.name.now (sym c.table.ensures ∙ c.in-None.is)) in
-    refused_answers g.W.Site.tells c.args.client (rows_wish c.args.name.now) UnknownTable c.refuse.result store store (g.W.Site.outside c.args.site.now) (g.W.Site.outside c.refuse.new.site) c.requires.usable
-    (holds_itself store c.requires.usable.within) (λ entries agree. ap (λ (found : Result (ℕ × TableDef) Refusal). and_then found (λ f. Ok (TellRows f.0 f.1))) none) c.refuse.ensures
+    let given = c.in-Ok.ensures in
+    let asks = subst (λ (schema : Schema). asked schema.tables c.args.select.now ≡ Ok given.0) c.schema.ensures given.1 in
+    same_wish g.W.Site.tells c.args.client (rows_wish given.0) (query_wish c.args.select.now) c.show.result store store (g.W.Site.outside c.args.site.now) (g.W.Site.outside c.show.new.site)
+    (λ entries. sym (ap (λ (query : Result Asked Refusal). and_then query (λ q. Ok (TellRows q))) asks)) (c.show.ensures given.0 given.2 (asked_of_store store c.args.select.now given.0 asks))
+
+pub returns-in-Err-Refused : goal.returns-in-Err-Refused
+returns-in-Err-Refused g c =
+    let store = c.args.store.now in
+    let refusal = c.in-Err-Refused.refusal in
+    let told : asked c.schema.result.now.tables c.args.select.now ≡ Err refusal =
+    subst (λ (fault : StatementFault). AnswersAs IsPrepared (asked c.schema.result.now.tables c.args.select.now) (Err fault)) c.in-Err-Refused.field-0-is c.in-Err-Refused.ensures in
+    let refused = subst (λ (schema : Schema). asked schema.tables c.args.select.now ≡ Err refusal) c.schema.ensures told in
+    refused_answers g.W.Site.tells c.args.client (query_wish c.args.select.now) refusal c.refuse.result store store (g.W.Site.outside c.args.site.now) (g.W.Site.outside c.refuse.new.site) c.requires.usable
+    (holds_itself store c.requires.usable.within) (λ entries agree. ap (λ (query : Result Asked Refusal). and_then query (λ q. Ok (TellRows q))) refused) (rw c.in-Err-Refused.refusal-is at c.refuse.ensures)
+
+pub returns-in-Err-NoMemory : goal.returns-in-Err-NoMemory
+returns-in-Err-NoMemory g c =
+    let store = c.args.store.now in
+    no_memory_answers g.W.Site.tells c.args.client (query_wish c.args.select.now) store store (g.W.Site.outside c.args.site.now) c.requires.usable.within (λ tell. g.met.W.Site.only_now c.args.site.now)

@@ -1,8 +1,8 @@
 use Rattle.std.proofs.Common.{◌≡◌, ◌≤◌, ◌+◌, Some, Ok, option_map, sym, ◌∙◌}
 use Rattle.std.proofs.lemmas.Result.{IfOk-weaker}
+use Rattle.chv_query.specs.Tables.{table_of}
 use Rattle.chv_catalog.specs.Schemas.{names_of}
 use Rattle.chv_types.specs.Names.{place_of}
-use Rattle.chv_plan.specs.Plans.{table_of}
 use Rattle.chv_plan.proofs.PlanLemmas.{found_table, planned_there, delivered, one_table-Brings, count-Brings}
 use Rattle.chv_plan.proofs.insert.plan_insert.Goals.{After-table_def}
 use Rattle.chv_plan.proofs.insert.plan_insert.Goals as goal
