@@ -1,5 +1,5 @@
 -- What is bound means what a definition gives.
-use Rattle.std.specs.Prelude.{ℕ, pos, ◌≡◌, ◌<◌, ◌≤◌, ◌^◌, ◌||◌, nat_lt, length, Bool, true, false, List, [], ◌∷◌, Option, None, Some, IfSome, Ok}
+use Rattle.std.specs.Prelude.{ℕ, pos, ◌≡◌, ◌<◌, ◌≤◌, ◌^◌, ◌||◌, nat_lt, length, Bool, true, false, List, [], ◌∷◌, Option, None, Some, IfSome, IfOk, IfErr, Result, Ok, Err}
 use Rattle.std.specs.Option.{option_map, option_and_then}
 use Rattle.std.proofs.Common.{ap, ap₂, arith, refl, sym, subst, ◌∙◌}
 use Rattle.std.proofs.lemmas.Bool.Decides.{nat_tests}
@@ -8,6 +8,7 @@ use Rattle.chv_ast.specs.declared.expr.BinaryOp.TheVariants as binary
 use Rattle.chv_ast.specs.declared.expr.Literal.TheVariants as literal
 use Rattle.chv_ast.specs.declared.expr.UnaryOp.{UnaryOp}
 use Rattle.chv_ast.specs.declared.expr.UnaryOp.TheVariants as unary
+use Rattle.chv_ast.specs.declared.refusal.Refusal.{Refusal}
 use Rattle.chv_ast.specs.declared.refusal.Refusal.TheVariants.{BadLiteral, TypeMismatch}
 use Rattle.chv_types.specs.Fits.{Fits, IsOfScalar}
 use Rattle.chv_types.specs.Steps.{or_refuse}
@@ -19,12 +20,13 @@ use Rattle.chv_types.specs.declared.kind.Scalar.TheVariants as scalar
 use Rattle.chv_types.specs.declared.table.Column.{Column}
 use Rattle.chv_types.specs.declared.value.Value.{Value}
 use Rattle.chv_types.specs.declared.value.Value.TheVariants.{Whole, Truth, Text}
-use Rattle.chv_expr.specs.Bindings.{AreMeant, Binds, Means, tree_value}
+use Rattle.chv_expr.specs.Bindings.{AreMeant, Binds, Means, Refuses, tree_value}
 use Rattle.chv_expr.specs.Kinds.{class_of, wide, numbers, truths, joined, compared_kind, binary_kind, unary_kind}
 use Rattle.chv_expr.specs.Terms.{Term, is_signed, in_classes, unary_value, binary_value, unary_term, binary_term, quotient_term, chosen_value, chosen_of, length_of, widened_of, constant, literal_term}
 use Rattle.chv_expr.specs.Values.{arithmetic, comparison, conjunction, disjunction, choice, widened, text_length}
 use Rattle.chv_expr.specs.declared.arguments.Arguments.TheVariants as arguments
 use Rattle.chv_expr.specs.declared.bound.Bound.{Bound}
+use Rattle.chv_expr.specs.declared.fault.Untyped.{Untyped}
 use Rattle.chv_expr.specs.declared.kind.Class.{Class}
 use Rattle.chv_expr.specs.declared.kind.Class.TheVariants as class
 use Rattle.chv_expr.specs.declared.tree.Arithmetic.{Arithmetic}
@@ -216,15 +218,32 @@ Binds-binary columns op a b bound x y plain m n e k s =
       fits = λ row f. fits-binary_value op x.kind y.kind plain (x.value row) (y.value row) given (n.fits row f);
     })
 
+-- what is made of something, is made of it
+mapped : {K L : Type 0} (f : K → L) (o : Option K) (l : L) → option_map f o ≡ Some l → (k : K) × (o ≡ Some k) × (f k ≡ l)
+mapped f None l e = absurd (cc)
+mapped f (Some k) l e = (k, refl, cc)
+
+-- of nothing nothing is made
+unmapped : {K L : Type 0} (f : K → L) (o : Option K) → option_map f o ≡ None → o ≡ None
+unmapped f None e = refl
+unmapped f (Some k) e = absurd (cc)
+
+is_signed-wide : (signed : Bool) → is_signed (wide signed) ≡ signed
+is_signed-wide false = refl
+is_signed-wide true = refl
+
 -- a number by another one
-pub Binds-quotient : (columns : List Column) (a b bound : Bound) (x y : Term) (signed : Bool)
-    → Means columns a x → Means columns b y → of_kinds numbers a.kind b.kind ≡ Some signed → bound.kind ≡ kind.Plain (wide signed)
-    → ((row : List Value) → tree_value bound.tree row ≡ arithmetic sum.Quotient signed (tree_value a.tree row) (tree_value b.tree row))
+pub Binds-quotient : (columns : List Column) (a b bound : Bound) (x y : Term) (plain : Scalar)
+    → Means columns a x → Means columns b y → option_map wide (of_kinds numbers a.kind b.kind) ≡ Some plain → bound.kind ≡ kind.Plain plain
+    → ((row : List Value) → tree_value bound.tree row ≡ arithmetic sum.Quotient (is_signed plain) (tree_value a.tree row) (tree_value b.tree row))
     → Binds columns (or_refuse TypeMismatch (quotient_term x y)) (Ok bound)
-Binds-quotient columns a b bound x y signed m n e k s =
-    Binds-given columns _ _ signed bound (same_kinds numbers columns a b x y m n ∙ e) (record {
-      kind = k;
-      same = λ row. s row ∙ ap₂ (arithmetic sum.Quotient signed) (m.same row) (n.same row);
+Binds-quotient columns a b bound x y plain m n e k s =
+    let given = mapped wide (of_kinds numbers a.kind b.kind) plain e in
+    let signed = given.0 in
+    let sign : is_signed plain ≡ signed = ap is_signed (sym given.2) ∙ is_signed-wide signed in
+    Binds-given columns _ _ signed bound (same_kinds numbers columns a b x y m n ∙ given.1) (record {
+      kind = k ∙ ap kind.Plain (sym given.2);
+      same = λ row. s row ∙ rw (sign, m.same row, n.same row) refl;
       fits = λ row f. fits-arithmetic sum.Quotient signed (x.value row) (y.value row);
     })
 
@@ -242,6 +261,52 @@ Binds-if columns test a b bound c x y plain l m n t e k s =
       same = λ row. s row ∙ rw (l.same row, m.same row, n.same row) refl;
       fits = λ row f. fits-chosen_value x.kind y.kind plain (c.value row) (x.value row) (y.value row) given (m.fits row f) (n.fits row f);
     }))
+
+-- what has no kind is refused
+refused-given : {K : Type 0} (term : K → Term) (o : Option K) → o ≡ None → or_refuse TypeMismatch (option_map term o) ≡ Err TypeMismatch
+refused-given term o e = ap (λ o. or_refuse TypeMismatch (option_map term o)) e
+
+-- an operation with one operand that has no kind
+pub refused-unary : (columns : List Column) (op : UnaryOp) (a : Bound) (x : Term)
+    → Means columns a x → option_and_then (unary_kind op) (class_of a.kind) ≡ None → or_refuse TypeMismatch (unary_term op x) ≡ Err TypeMismatch
+refused-unary columns op a x m e = refused-given _ _ (ap (λ j. option_and_then (unary_kind op) (class_of j)) (sym m.kind) ∙ e)
+
+-- an operation with two operands that has no kind
+pub refused-binary : (columns : List Column) (op : BinaryOp) (a b : Bound) (x y : Term)
+    → Means columns a x → Means columns b y → of_kinds (binary_kind op) a.kind b.kind ≡ None → or_refuse TypeMismatch (binary_term op x y) ≡ Err TypeMismatch
+refused-binary columns op a b x y m n e = refused-given _ _ (same_kinds (binary_kind op) columns a b x y m n ∙ e)
+
+-- what is no number by another one
+pub refused-quotient : (columns : List Column) (a b : Bound) (x y : Term)
+    → Means columns a x → Means columns b y → option_map wide (of_kinds numbers a.kind b.kind) ≡ None
+    → or_refuse TypeMismatch (quotient_term x y) ≡ Err TypeMismatch
+refused-quotient columns a b x y m n e = refused-given _ _ (same_kinds numbers columns a b x y m n ∙ unmapped wide (of_kinds numbers a.kind b.kind) e)
+
+refused-chosen : (o : Option Class) (c x y : Term) → (o ≡ Some class.Truth → in_classes joined x y ≡ None)
+    → or_refuse TypeMismatch (option_and_then (chosen_of c x y) o) ≡ Err TypeMismatch
+refused-chosen None c x y e = refl
+refused-chosen (Some class.Truth) c x y e = refused-given _ _ (e refl)
+refused-chosen (Some class.Text) c x y e = refl
+refused-chosen (Some (class.Number signed)) c x y e = refl
+
+-- one of two that have no kind together, or by what is no truth
+pub refused-if : (columns : List Column) (test a b : Bound) (c x y : Term)
+    → Means columns test c → Means columns a x → Means columns b y → (class_of test.kind ≡ Some class.Truth → of_kinds joined a.kind b.kind ≡ None)
+    → or_refuse TypeMismatch (option_and_then (chosen_of c x y) (class_of c.kind)) ≡ Err TypeMismatch
+refused-if columns test a b c x y l m n e =
+    refused-chosen (class_of c.kind) c x y (λ t. same_kinds joined columns a b x y m n ∙ e (ap class_of l.kind ∙ t))
+
+-- what is bound where there is a kind, and refused where there is none
+pub Binds-of_kind : (P : Bound → Type 0) (columns : List Column) (plain : Option Scalar) (outcome : Result Term Refusal) (result : Result Bound Untyped)
+    → IfOk result (λ bound. option_map kind.Plain plain ≡ Some bound.kind) → IfOk result P
+    → IfErr result (Refuses (or_refuse TypeMismatch plain)) → (plain ≡ None → outcome ≡ Err TypeMismatch)
+    → ((p : Scalar) (bound : Bound) → plain ≡ Some p → bound.kind ≡ kind.Plain p → P bound → Binds columns outcome (Ok bound))
+    → Binds columns outcome result
+Binds-of_kind P columns None outcome (Ok bound) k s r none some = absurd (cc)
+Binds-of_kind P columns (Some p) outcome (Ok bound) k s r none some = some p bound refl (cc) s
+Binds-of_kind P columns None outcome (Err fault) k s r none some = λ refusal e.
+    let same : TypeMismatch ≡ refusal = cc (r refusal e) in none refl ∙ ap Err same
+Binds-of_kind P columns (Some p) outcome (Err fault) k s r none some = λ refusal e. absurd (cc (r refusal e))
 
 -- the length of a text
 pub Binds-length : (columns : List Column) (a bound : Bound) (x : Term)

@@ -8,7 +8,6 @@ use crate::arguments::Arguments;
 use crate::call::bind_call;
 use crate::literal::bind_literal;
 use crate::operation::{bind_binary, bind_unary};
-use crate::tree::Tree;
 use crate::{Bound, Untyped};
 use chv_ast::{Args, Expr};
 use chv_types::{Column, Columns, Kind};
@@ -39,7 +38,7 @@ fn bind(alloc: Global, expr: &Expr, columns: &[Column]) -> Result<Bound, Untyped
     ensures { Binds columns.now (term_of columns.now expr.now) result }
 {
     match expr {
-        Expr::Column(name) => bind_column(name.as_slice(), columns),
+        Expr::Column(name) => bind_column(alloc, name.as_slice(), columns),
         Expr::Literal(literal) => bind_literal(alloc, literal),
         Expr::Unary { op, arg } => {
             let arg = bind(alloc, arg.get(), columns)?;
@@ -74,11 +73,11 @@ fn bind_args(alloc: Global, args: &Args, columns: &[Column]) -> Result<Arguments
 }
 
 // Binds the name of a column.
-fn bind_column(name: &[u8], columns: &[Column]) -> Result<Bound, Untyped>
+fn bind_column(alloc: Global, name: &[u8], columns: &[Column]) -> Result<Bound, Untyped>
     ensures { Binds columns.now (column_term columns.now name.now) result }
 {
     match place_of(name, columns) {
-        Some(place) => Ok(Bound::new(columns[place].kind, Tree::Column(place))),
+        Some(place) => Ok(Bound::column(alloc, place, columns[place].kind)?),
         None => Err(Untyped::UnknownColumn),
     }
 }

@@ -1,45 +1,69 @@
 // Bound expressions.
-ghost use Rattle.std.specs.Prelude.{◌≡◌, IfSome, List, Some};
-ghost use Rattle.chv_expr.specs.Bindings.{meaning, value_in};
+ghost use Rattle.std.specs.Prelude.{◌≡◌, IfErr, IfOk, IfSome, List, Some};
+ghost use Rattle.std.specs.Option.{option_map};
+ghost use Rattle.chv_ast.specs.declared.refusal.Refusal.TheVariants.{TypeMismatch};
+ghost use Rattle.chv_expr.specs.Bindings.{Refuses, meaning, value_in};
 ghost use Rattle.chv_expr.specs.Terms.{value_at};
 ghost use Rattle.chv_expr.specs.declared.tree.Tree.TheVariants as tree;
+ghost use Rattle.chv_types.specs.Steps.{or_refuse};
 ghost use Rattle.chv_types.specs.declared.value.Value.{Value as SomeValue};
 
-use crate::ZeroDivisor;
 use crate::evaluate::value;
 use crate::tree::Tree;
-use chv_types::{Kind, Seen, Value};
+use crate::{Untyped, ZeroDivisor};
+use chv_types::{Kind, Scalar, Seen, Value};
+use sqlite_items::Boxed;
+use std::alloc::{AllocError, Global};
 
 /// An expression over the columns of a table, by their places.
 #[derive(Drop)]
 pub struct Bound {
     kind: Kind,
-    tree: Tree,
+    tree: Boxed<Tree>,
 }
 
 impl Bound {
-    /// The expression of a tree, of this kind. It takes no memory.
-    pub(crate) fn new(kind: Kind, tree: Tree) -> Bound
-        ensures kind { result.kind ≡ kind }
-        ensures tree { result.tree ≡ tree }
+    /// The expression of a tree, of this kind.
+    pub(crate) fn new(alloc: Global, kind: Kind, tree: Tree) -> Result<Bound, AllocError>
+        ensures kind { IfOk result (λ bound. bound.kind ≡ kind) }
+        ensures tree { IfOk result (λ bound. bound.tree ≡ tree) }
     {
-        Bound { kind, tree }
+        Ok(Bound {
+            kind,
+            tree: Boxed::new(alloc, tree)?,
+        })
+    }
+
+    /// The expression of a tree, of a kind of plain values. It is refused where there is none.
+    pub(crate) fn of_kind(
+        alloc: Global,
+        plain: Option<Scalar>,
+        tree: Tree,
+    ) -> Result<Bound, Untyped>
+        ensures kind { IfOk result (λ bound. option_map Kind.Plain plain ≡ Some bound.kind) }
+        ensures tree { IfOk result (λ bound. bound.tree ≡ tree) }
+        ensures refused { IfErr result (Refuses (or_refuse TypeMismatch plain)) }
+    {
+        match plain {
+            Some(plain) => Ok(Bound::new(alloc, Kind::Plain(plain), tree)?),
+            None => Err(Untyped::TypeMismatch),
+        }
     }
 
     /// The tree. It takes no memory.
-    pub(crate) fn into_tree(self) -> Tree
+    pub(crate) fn into_tree(self) -> Boxed<Tree>
         ensures { result ≡ self.tree }
     {
         let Bound { kind: _, tree } = self;
         tree
     }
 
-    /// The column of this place, from 0, and this kind. It takes no memory.
-    pub fn column(place: usize, kind: Kind) -> Bound
-        ensures kind { result.kind ≡ kind }
-        ensures tree { result.tree ≡ tree.Column place }
+    /// The column of this place, from 0, and this kind.
+    pub fn column(alloc: Global, place: usize, kind: Kind) -> Result<Bound, AllocError>
+        ensures kind { IfOk result (λ bound. bound.kind ≡ kind) }
+        ensures tree { IfOk result (λ bound. bound.tree ≡ tree.Column place) }
     {
-        Bound::new(kind, Tree::Column(place))
+        Bound::new(alloc, kind, Tree::Column(place))
     }
 
     /// The kind of its values.
@@ -54,7 +78,7 @@ impl Bound {
     pub fn place(&self) -> Option<usize>
         ensures { IfSome result (λ place. (row : List SomeValue) → meaning self.now row ≡ Some (value_at place row)) }
     {
-        match &self.tree {
+        match self.tree.get() {
             Tree::Column(place) => Some(*place),
             _ => None,
         }
@@ -64,6 +88,6 @@ impl Bound {
     pub fn seen<'a>(&'a self, row: &'a [Value]) -> Result<Seen<'a>, ZeroDivisor>
         ensures { value_in result ≡ meaning self.now row.now }
     {
-        value(&self.tree, row)
+        value(self.tree.get(), row)
     }
 }

@@ -1,20 +1,19 @@
 // Calls of functions.
-ghost use Rattle.std.specs.Prelude.{◌≡◌, ◌↔◌, List, [], ◌∷◌, Some, IfOk, IfErr, IsTrue};
-ghost use Rattle.std.specs.Option.{option_and_then};
+ghost use Rattle.std.specs.Prelude.{◌≡◌, ◌↔◌, List, [], ◌∷◌, None, Some, IfSome, IfOk, IfErr, IsTrue};
+ghost use Rattle.std.specs.Option.{option_and_then, option_map};
 ghost use Rattle.chv_ast.specs.declared.refusal.Refusal.TheVariants.{TypeMismatch};
-ghost use Rattle.chv_expr.specs.Bindings.{AreMeant, Binds, Means, refusal_of, tree_value};
-ghost use Rattle.chv_expr.specs.Kinds.{class_of, joined, numbers};
+ghost use Rattle.chv_expr.specs.Bindings.{AreMeant, Binds, Means, Refuses, refusal_of, tree_value};
+ghost use Rattle.chv_expr.specs.Kinds.{class_of, joined, numbers, wide};
 ghost use Rattle.chv_expr.specs.Terms.{Term, applied, call_term, chosen_of, chosen_value, no_function};
 ghost use Rattle.chv_expr.specs.Terms.{quotient_term, widened_of};
-ghost use Rattle.chv_expr.specs.Values.{choice};
 ghost use Rattle.chv_types.specs.Steps.{or_refuse};
 ghost use Rattle.chv_types.specs.declared.table.Column.{Column as SomeColumn};
 ghost use Rattle.chv_types.specs.declared.value.Value.{Value as SomeValue};
 
 use crate::arguments::Arguments;
 use crate::function::{Function, function_named};
-use crate::kind::{Class, class_of, is_signed, joined, numbers, wide};
-use crate::operation::bind_binary;
+use crate::kind::{Class, class_of, has_sign, is_signed, joined, numbers, wide};
+use crate::operation::{bind_binary, calculate};
 use crate::tree::{Arithmetic, Tree};
 use crate::{Bound, Untyped};
 use chv_ast::BinaryOp;
@@ -107,8 +106,8 @@ fn bind_length(alloc: Global, a: Bound) -> Result<Bound, Untyped>
 {
     match class_of(a.kind()) {
         Some(Class::Text) => {
-            let arg = Boxed::new(alloc, a.into_tree())?;
-            Ok(Bound::new(Kind::Plain(Scalar::UInt64), Tree::Length(arg)))
+            let tree = Tree::Length(a.into_tree());
+            Ok(Bound::new(alloc, Kind::Plain(Scalar::UInt64), tree)?)
         }
         _ => Err(Untyped::TypeMismatch),
     }
@@ -121,8 +120,12 @@ fn bind_widen(alloc: Global, signed: bool, a: Bound) -> Result<Bound, Untyped>
 {
     match class_of(a.kind()) {
         Some(Class::Number { .. }) => {
-            let arg = Boxed::new(alloc, a.into_tree())?;
-            Ok(Bound::new(Kind::Plain(wide(signed)), Tree::Widen { signed, arg }))
+            let arg = a.into_tree();
+            Ok(Bound::new(
+                alloc,
+                Kind::Plain(wide(signed)),
+                Tree::Widen { signed, arg },
+            )?)
         }
         _ => Err(Untyped::TypeMismatch),
     }
@@ -133,31 +136,23 @@ fn bind_quotient(alloc: Global, a: Bound, b: Bound) -> Result<Bound, Untyped>
     ensures { (columns : List SomeColumn) (x y : Term) → Means columns a x → Means columns b y
         → Binds columns (or_refuse TypeMismatch (quotient_term x y)) result }
 {
-    match signed_of(a.kind(), b.kind()) {
-        Some(signed) => {
-            let left = Boxed::new(alloc, a.into_tree())?;
-            let right = Boxed::new(alloc, b.into_tree())?;
-            Ok(Bound::new(
-                Kind::Plain(wide(signed)),
-                Tree::Calculate {
-                    operation: Arithmetic::Quotient,
-                    signed,
-                    left,
-                    right,
-                },
-            ))
-        }
-        None => Err(Untyped::TypeMismatch),
-    }
+    let plain = kind_of_quotient(a.kind(), b.kind());
+    let tree = calculate(
+        Arithmetic::Quotient,
+        has_sign(plain),
+        a.into_tree(),
+        b.into_tree(),
+    );
+    Bound::of_kind(alloc, plain, tree)
 }
 
-// Whether what numbers of two kinds give has a sign; None where they are no numbers.
-fn signed_of(a: Kind, b: Kind) -> Option<bool>
-    ensures { result ≡ option_and_then (λ x. option_and_then (λ y. numbers x y) (class_of b)) (class_of a) }
+// The kind of a number of one kind by one of another; None where they are no numbers.
+fn kind_of_quotient(a: Kind, b: Kind) -> Option<Scalar>
+    ensures { result ≡ option_map wide (option_and_then (λ x. option_and_then (λ y. numbers x y) (class_of b)) (class_of a)) }
 {
     let a = class_of(a)?;
     let b = class_of(b)?;
-    numbers(a, b)
+    Some(wide(numbers(a, b)?))
 }
 
 // The kind of either of two values of these kinds.
@@ -174,15 +169,26 @@ fn bind_if(alloc: Global, test: Bound, a: Bound, b: Bound) -> Result<Bound, Unty
     ensures { (columns : List SomeColumn) (c x y : Term) → Means columns test c → Means columns a x → Means columns b y
         → Binds columns (or_refuse TypeMismatch (option_and_then (chosen_of c x y) (class_of c.kind))) result }
 {
-    if !is_truth(test.kind()) {
-        return Err(Untyped::TypeMismatch);
-    }
-    match joined_of(a.kind(), b.kind()) {
-        Some(plain) => {
-            let tree = choice(alloc, plain, test.into_tree(), a.into_tree(), b.into_tree())?;
-            Ok(Bound::new(Kind::Plain(plain), tree))
-        }
-        None => Err(Untyped::TypeMismatch),
+    let plain = kind_of_if(test.kind(), a.kind(), b.kind());
+    let tree = Tree::If {
+        test: test.into_tree(),
+        left: a.into_tree(),
+        right: b.into_tree(),
+    };
+    bind_chosen(alloc, plain, tree)
+}
+
+// The kind of one of two by a test, of these kinds; None where the test is no truth.
+fn kind_of_if(test: Kind, a: Kind, b: Kind) -> Option<Scalar>
+    ensures some { IfSome result (λ plain. (class_of test ≡ Some Class.Truth)
+        × (option_and_then (λ x. option_and_then (λ y. joined x y) (class_of b)) (class_of a) ≡ Some plain)) }
+    ensures none { result ≡ None → class_of test ≡ Some Class.Truth
+        → option_and_then (λ x. option_and_then (λ y. joined x y) (class_of b)) (class_of a) ≡ None }
+{
+    if is_truth(test) {
+        joined_of(a, b)
+    } else {
+        None
     }
 }
 
@@ -196,22 +202,20 @@ fn is_truth(kind: Kind) -> bool
     }
 }
 
-// One of two, by a truth, of a kind.
-fn choice(
-    alloc: Global,
-    plain: Scalar,
-    test: Tree,
-    left: Tree,
-    right: Tree,
-) -> Result<Tree, Untyped>
-    ensures tree { IfOk result (λ tree. (row : List SomeValue) → tree_value tree row
-        ≡ chosen_value plain (choice (tree_value test row) (tree_value left row) (tree_value right row))) }
-    ensures err { IfErr result (λ fault. fault ≡ Untyped.NoMemory) }
+// Binds what is chosen, of a kind, where there is one.
+fn bind_chosen(alloc: Global, plain: Option<Scalar>, tree: Tree) -> Result<Bound, Untyped>
+    ensures kind { IfOk result (λ bound. option_map Kind.Plain plain ≡ Some bound.kind) }
+    ensures tree { IfOk result (λ bound. IfSome plain (λ plain. (row : List SomeValue)
+        → tree_value bound.tree row ≡ chosen_value plain (tree_value tree row))) }
+    ensures refused { IfErr result (Refuses (or_refuse TypeMismatch plain)) }
 {
-    let test = Boxed::new(alloc, test)?;
-    let left = Boxed::new(alloc, left)?;
-    let right = Boxed::new(alloc, right)?;
-    chosen(alloc, plain, Tree::If { test, left, right })
+    match plain {
+        Some(plain) => {
+            let chosen = chosen(alloc, plain, tree)?;
+            Ok(Bound::new(alloc, Kind::Plain(plain), chosen)?)
+        }
+        None => Err(Untyped::TypeMismatch),
+    }
 }
 
 // What is chosen, of a kind: an integer has 64 bits.

@@ -1,5 +1,5 @@
 // The kinds of operations.
-ghost use Rattle.std.specs.Prelude.{◌≡◌};
+ghost use Rattle.std.specs.Prelude.{◌≡◌, IfSome};
 ghost use Rattle.chv_expr.specs.Kinds.{binary_kind, class_of, class_of_scalar, joined, numbers, unary_kind, wide};
 ghost use Rattle.chv_expr.specs.Terms.{is_signed};
 
@@ -133,4 +133,14 @@ pub fn is_signed(plain: Scalar) -> bool
     ensures { result ≡ is_signed plain }
 {
     plain != Scalar::UInt64
+}
+
+/// Whether what is calculated has a sign, where there is a kind of it.
+pub fn has_sign(plain: Option<Scalar>) -> bool
+    ensures { IfSome plain (λ plain. result ≡ is_signed plain) }
+{
+    match plain {
+        Some(plain) => is_signed(plain),
+        None => false,
+    }
 }

@@ -1,5 +1,5 @@
 // Literals.
-ghost use Rattle.std.specs.Prelude.{◌≡◌, List};
+ghost use Rattle.std.specs.Prelude.{◌≡◌, IfOk, List};
 ghost use Rattle.chv_expr.specs.Bindings.{Binds};
 ghost use Rattle.chv_expr.specs.Terms.{literal_term};
 ghost use Rattle.chv_ast.specs.declared.expr.Literal.TheVariants as literal;
@@ -9,28 +9,28 @@ use crate::tree::Tree;
 use crate::{Bound, Untyped};
 use chv_ast::Literal;
 use chv_types::{Bytes, Kind, MAX_TEXT, Scalar, Value, whole_number};
-use std::alloc::Global;
+use std::alloc::{AllocError, Global};
 
 /// Binds a literal.
 pub fn bind_literal(alloc: Global, literal: &Literal) -> Result<Bound, Untyped>
     ensures { (columns : List SomeColumn) → Binds columns (literal_term literal.now) result }
 {
     match literal {
-        Literal::Whole { minus, digits } => bind_whole(*minus, digits.as_slice()),
+        Literal::Whole { minus, digits } => bind_whole(alloc, *minus, digits.as_slice()),
         Literal::Quoted(text) => bind_text(alloc, text.as_slice()),
-        Literal::Truth(truth) => Ok(constant(Scalar::Bool, Value::Truth(*truth))),
+        Literal::Truth(truth) => Ok(constant(alloc, Scalar::Bool, Value::Truth(*truth))?),
     }
 }
 
 // Binds a number.
-fn bind_whole(minus: bool, digits: &[u8]) -> Result<Bound, Untyped>
+fn bind_whole(alloc: Global, minus: bool, digits: &[u8]) -> Result<Bound, Untyped>
     ensures { (columns : List SomeColumn) → Binds columns (literal_term (literal.Whole minus digits.now)) result }
 {
     if minus {
         return Err(Untyped::BadLiteral);
     }
     match whole_number(digits) {
-        Some(n) => Ok(constant(Scalar::UInt64, Value::Whole(i128::from(n)))),
+        Some(n) => Ok(constant(alloc, Scalar::UInt64, Value::Whole(i128::from(n)))?),
         None => Err(Untyped::BadLiteral),
     }
 }
@@ -43,13 +43,13 @@ fn bind_text(alloc: Global, text: &[u8]) -> Result<Bound, Untyped>
         return Err(Untyped::BadLiteral);
     }
     let text = Bytes::from_slice(alloc, text)?;
-    Ok(constant(Scalar::Text, Value::Text(text)))
+    Ok(constant(alloc, Scalar::Text, Value::Text(text))?)
 }
 
 // The same value over each row.
-fn constant(plain: Scalar, value: Value) -> Bound
-    ensures kind { result.kind ≡ Kind.Plain plain }
-    ensures tree { result.tree ≡ Tree.Constant value }
+fn constant(alloc: Global, plain: Scalar, value: Value) -> Result<Bound, AllocError>
+    ensures kind { IfOk result (λ bound. bound.kind ≡ Kind.Plain plain) }
+    ensures tree { IfOk result (λ bound. bound.tree ≡ Tree.Constant value) }
 {
-    Bound::new(Kind::Plain(plain), Tree::Constant(value))
+    Bound::new(alloc, Kind::Plain(plain), Tree::Constant(value))
 }

@@ -10,7 +10,7 @@ ghost use Rattle.chv_types.specs.Steps.{or_refuse};
 ghost use Rattle.chv_types.specs.declared.table.Column.{Column as SomeColumn};
 ghost use Rattle.chv_types.specs.declared.value.Value.{Value as SomeValue};
 
-use crate::kind::{binary_kind, class_of, is_signed, unary_kind};
+use crate::kind::{binary_kind, class_of, has_sign, unary_kind};
 use crate::tree::{Arithmetic, Comparison, Tree};
 use crate::{Bound, Untyped};
 use chv_ast::{BinaryOp, UnaryOp};
@@ -23,13 +23,9 @@ pub fn bind_unary(alloc: Global, op: UnaryOp, a: Bound) -> Result<Bound, Untyped
     ensures { (columns : List SomeColumn) (x : Term) → Means columns a x
         → Binds columns (or_refuse TypeMismatch (unary_term op x)) result }
 {
-    match kind_of_unary(op, a.kind()) {
-        Some(plain) => {
-            let tree = unary_tree(alloc, op, a.into_tree())?;
-            Ok(Bound::new(Kind::Plain(plain), tree))
-        }
-        None => Err(Untyped::TypeMismatch),
-    }
+    let plain = kind_of_unary(op, a.kind());
+    let tree = unary_tree(alloc, op, a.into_tree())?;
+    Bound::of_kind(alloc, plain, tree)
 }
 
 // The kind of an operation on a value of a kind.
@@ -41,12 +37,11 @@ fn kind_of_unary(op: UnaryOp, a: Kind) -> Option<Scalar>
 }
 
 // The tree of an operation with one operand.
-fn unary_tree(alloc: Global, op: UnaryOp, arg: Tree) -> Result<Tree, Untyped>
+fn unary_tree(alloc: Global, op: UnaryOp, arg: Boxed<Tree>) -> Result<Tree, Untyped>
     ensures tree { IfOk result (λ tree. (row : List SomeValue)
         → tree_value tree row ≡ unary_value op (tree_value arg row)) }
     ensures err { IfErr result (λ fault. fault ≡ Untyped.NoMemory) }
 {
-    let arg = Boxed::new(alloc, arg)?;
     match op {
         UnaryOp::Minus => {
             let left = Boxed::new(alloc, Tree::Constant(Value::Whole(0)))?;
@@ -66,17 +61,9 @@ pub fn bind_binary(alloc: Global, op: BinaryOp, a: Bound, b: Bound) -> Result<Bo
     ensures { (columns : List SomeColumn) (x y : Term) → Means columns a x → Means columns b y
         → Binds columns (or_refuse TypeMismatch (binary_term op x y)) result }
 {
-    match kind_of_binary(op, a.kind(), b.kind()) {
-        Some(plain) => {
-            let left = Boxed::new(alloc, a.into_tree())?;
-            let right = Boxed::new(alloc, b.into_tree())?;
-            Ok(Bound::new(
-                Kind::Plain(plain),
-                binary_tree(op, is_signed(plain), left, right),
-            ))
-        }
-        None => Err(Untyped::TypeMismatch),
-    }
+    let plain = kind_of_binary(op, a.kind(), b.kind());
+    let tree = binary_tree(op, has_sign(plain), a.into_tree(), b.into_tree());
+    Bound::of_kind(alloc, plain, tree)
 }
 
 // The kind of an operation on values of two kinds.
@@ -117,8 +104,8 @@ fn compare(test: Comparison, left: Boxed<Tree>, right: Boxed<Tree>) -> Tree
     Tree::Compare { test, left, right }
 }
 
-// The tree of an operation on numbers.
-fn calculate(operation: Arithmetic, signed: bool, left: Boxed<Tree>, right: Boxed<Tree>) -> Tree
+/// The tree of an operation on numbers.
+pub fn calculate(operation: Arithmetic, signed: bool, left: Boxed<Tree>, right: Boxed<Tree>) -> Tree
     ensures { (row : List SomeValue)
         → tree_value result row ≡ arithmetic operation signed (tree_value left row) (tree_value right row) }
 {

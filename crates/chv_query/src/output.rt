@@ -105,7 +105,8 @@ fn put_columns(alloc: Global, outputs: &mut Outputs, columns: &[Column]) -> Resu
             name: Bytes::from_slice(alloc, column.name.as_slice())?,
             kind: column.kind,
         })?;
-        outputs.bounds.push(Bound::column(place, column.kind))?;
+        let bound = Bound::column(alloc, place, column.kind)?;
+        outputs.bounds.push(bound)?;
     }
     Ok(())
 }

@@ -8,11 +8,10 @@ use Rattle.chv_expr.proofs.MeansLemmas.{Binds-widen}
 use Rattle.chv_expr.proofs.TreeLaws.{value-Widen}
 use Rattle.chv_expr.proofs.call.bind_widen.Goals as goal
 
-pub returns-in_ok-arg-in-Some-Number : goal.returns-in_ok-arg-in-Some-Number
-returns-in_ok-arg-in-Some-Number c = λ columns x m.
+pub returns-in_ok-new-in-Some-Number : goal.returns-in_ok-new-in-Some-Number
+returns-in_ok-new-in-Some-Number c = λ columns x m.
     let number : class_of c.args.a.kind ≡ Some (class.Number c.in-Some-Number.field-0-0) = cc in
-    let boxed : c.in_ok-arg-in-Some-Number.arg ≡ c.args.a.tree = c.in_ok-arg-in-Some-Number.ensures ∙ c.into_tree.ensures in
-    let built = c.new-in-Some-Number.ensures.tree ∙ ap (tree.Widen c.args.signed) boxed in
-    let kind_is = c.new-in-Some-Number.ensures.kind ∙ ap kind.Plain c.wide.ensures in
-    Binds-widen columns c.args.signed c.in-Some-Number.field-0-0 c.args.a c.new-in-Some-Number.result x m number kind_is
+    let built = c.in_ok-new-in-Some-Number.ensures.tree ∙ ap (tree.Widen c.args.signed) c.into_tree-arg.ensures in
+    let kind_is = c.in_ok-new-in-Some-Number.ensures.kind ∙ ap kind.Plain c.wide.ensures in
+    Binds-widen columns c.args.signed c.in-Some-Number.field-0-0 c.args.a c.in_ok-new-in-Some-Number.field-0 x m number kind_is
     (λ row. ap (λ t. tree_value t row) built ∙ value-Widen c.args.signed c.args.a.tree row)

@@ -7,8 +7,8 @@ use Rattle.chv_expr.proofs.operation.unary_tree.Goals as goal
 
 pub returns-in_ok-left-in-Minus-clause-tree : goal.returns-in_ok-left-in-Minus-clause-tree
 returns-in_ok-left-in-Minus-clause-tree c = λ row. rw c.in-Minus.is
-    (value-Calculate sum.Minus true c.in_ok-left-in-Minus.left c.in_ok-arg.arg row
-    ∙ rw (c.in_ok-left-in-Minus.ensures, c.in_ok-arg.ensures, value-Constant (Whole (pos 0)) row) refl)
+    (value-Calculate sum.Minus true c.in_ok-left-in-Minus.left c.args.arg row
+    ∙ rw (c.in_ok-left-in-Minus.ensures, value-Constant (Whole (pos 0)) row) refl)
 
 pub returns-in-Not-clause-tree : goal.returns-in-Not-clause-tree
-returns-in-Not-clause-tree c = λ row. rw (c.in-Not.is, c.in_ok-arg.ensures) (value-Not c.args.arg row)
+returns-in-Not-clause-tree c = λ row. rw c.in-Not.is (value-Not c.args.arg row)
