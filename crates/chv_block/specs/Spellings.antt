@@ -1,75 +1,34 @@
 -- Values, rows and blocks in bytes.
-use Rattle.std.specs.Prelude.{ℕ, ℤ, List, [], ◌∷◌, ◌++◌, length, Option, Some, None, Bool, true, false}
+use Rattle.std.specs.Prelude.{ℕ, ◌+◌, ◌≤◌, List, [], ◌∷◌, ◌++◌, length}
 use Rattle.std.specs.Int.{to_le_bytes, w32, w64}
-use Rattle.chv_bytes.specs.Integers.{int_bytes}
-use Rattle.chv_bytes.specs.Runs.{run_bytes}
-use Rattle.chv_bytes.specs.declared.integer.IntKind.{IntKind}
-use Rattle.chv_bytes.specs.declared.integer.IntKind.TheVariants.{U8, U16, U32, U64, I8, I16, I32, I64}
+use Rattle.chv_agg.specs.Plain.{scalar_code, scalar_spelling}
+use Rattle.chv_agg.specs.StateBytes.{AreState, agg_number}
 use Rattle.chv_types.specs.Fits.{IsOfScalar}
+use Rattle.chv_types.specs.Order.{bytes}
 use Rattle.chv_types.specs.declared.kind.Kind.{Kind}
 use Rattle.chv_types.specs.declared.kind.Kind.TheVariants as kind
-use Rattle.chv_types.specs.declared.kind.Scalar.{Scalar}
-use Rattle.chv_types.specs.declared.kind.Scalar.TheVariants as scalar
 use Rattle.chv_types.specs.declared.value.Value.{Value}
-use Rattle.chv_types.specs.declared.value.Value.TheVariants.{Whole, Truth, Text, State}
+use Rattle.chv_types.specs.declared.value.Value.TheVariants.{State}
 
--- the code of a kind of plain values
-abbrev pub scalar_code : Scalar → ℕ
-scalar_code scalar.UInt8 = 1
-scalar_code scalar.UInt16 = 2
-scalar_code scalar.UInt32 = 3
-scalar_code scalar.UInt64 = 4
-scalar_code scalar.Int8 = 5
-scalar_code scalar.Int16 = 6
-scalar_code scalar.Int32 = 7
-scalar_code scalar.Int64 = 8
-scalar_code scalar.Bool = 9
-scalar_code scalar.Text = 10
-
--- the code of a kind, which states do not have yet
+-- the code of a kind: of plain values their own, of states 16 and the number of the function, and the code of what they are over
 abbrev pub kind_code : Kind → List ℕ
 kind_code (kind.Plain plain) = scalar_code plain ∷ []
-kind_code (kind.State agg plain) = []
+kind_code (kind.State agg arg) = (16 + agg_number agg) ∷ scalar_code arg ∷ []
 
--- the integers of a kind, where it has integers
-abbrev pub integers_of : Scalar → Option IntKind
-integers_of scalar.UInt8 = Some U8
-integers_of scalar.UInt16 = Some U16
-integers_of scalar.UInt32 = Some U32
-integers_of scalar.UInt64 = Some U64
-integers_of scalar.Int8 = Some I8
-integers_of scalar.Int16 = Some I16
-integers_of scalar.Int32 = Some I32
-integers_of scalar.Int64 = Some I64
-integers_of scalar.Bool = None
-integers_of scalar.Text = None
-
--- a value is of a kind, of which those of states have none yet
+-- a value is of a kind: of states, one that is spelled whole
 abbrev pub IsOf : Kind → Value → Type 0
 IsOf (kind.Plain plain) value = IsOfScalar plain value
-IsOf (kind.State agg plain) value = ⊥
-
--- an integer in its kind's width
-abbrev pub whole_spelling : Option IntKind → ℤ → List ℕ
-whole_spelling None n = []
-whole_spelling (Some integers) n = int_bytes integers n
-
--- a truth in one byte
-abbrev pub truth_spelling : Bool → List ℕ
-truth_spelling false = 0 ∷ []
-truth_spelling true = 1 ∷ []
-
--- a value of a kind of plain values in bytes
-abbrev pub scalar_spelling : Scalar → Value → List ℕ
-scalar_spelling plain (Whole n) = whole_spelling (integers_of plain) n
-scalar_spelling plain (Truth truth) = truth_spelling truth
-scalar_spelling plain (Text text) = run_bytes text
-scalar_spelling plain (State spelling) = spelling
+IsOf (kind.State agg arg) (State spelling) = AreState agg arg spelling
+IsOf (kind.State agg arg) other = ⊥
 
 -- a value of a kind in bytes
 abbrev pub value_spelling : Kind → Value → List ℕ
 value_spelling (kind.Plain plain) value = scalar_spelling plain value
-value_spelling (kind.State agg plain) value = []
+value_spelling (kind.State agg arg) value = bytes value
+
+-- a value has 1,048,576 bytes at most
+abbrev pub IsSmall : Value → Type 0
+IsSmall value = length (bytes value) ≤ 1048576
 
 -- the values of a row are of the kinds of its columns
 abbrev pub AreOf : List Kind → List Value → Type 0

@@ -1,12 +1,12 @@
 // Blocks in bytes.
-ghost use Rattle.std.specs.Prelude.{◌≡◌, ◌++◌, ◌∷◌, [], length, IfOk, OnOk, OnErr};
+ghost use Rattle.std.specs.Prelude.{◌≡◌, ◌++◌, ◌+◌, length, IfOk, OnOk, OnErr};
 ghost use Rattle.std.specs.Int.{to_le_bytes, w32, w64};
-ghost use Rattle.std.specs.List.{All};
-ghost use Rattle.chv_types.specs.Values.{IsPlain};
-ghost use Rattle.chv_block.specs.Spellings.{AreOf, AllAreOf, scalar_code, kind_code, codes_of, row_spelling, rows_spelling, block_spelling};
+ghost use Rattle.chv_agg.specs.StateBytes.{agg_number};
+ghost use Rattle.chv_block.specs.Spellings.{AreOf, AllAreOf, kind_code, codes_of, row_spelling, rows_spelling, block_spelling};
 
 use crate::spell_value;
-use chv_types::{Block, Bytes, Kind, Kinds, Row, Scalar, Value};
+use chv_agg::scalar_code;
+use chv_types::{AggName, Block, Bytes, Kind, Kinds, Row, Value};
 use std::alloc::{AllocError, Global};
 
 // The bytes of a number of columns.
@@ -16,7 +16,6 @@ const COLUMNS_BYTES: usize = 4;
 ///
 /// Each row has a value of each kind, in the order of the kinds.
 pub fn block_bytes(alloc: Global, kinds: &Kinds, block: &Block) -> Result<Bytes, AllocError>
-    requires plain { All IsPlain kinds.now }
     requires rows { AllAreOf kinds.now block.now }
     ensures { IfOk result (λ bytes. bytes ≡ block_spelling kinds.now block.now) }
 {
@@ -31,7 +30,6 @@ pub fn block_bytes(alloc: Global, kinds: &Kinds, block: &Block) -> Result<Bytes,
 /// Puts the kinds of columns behind `out`: how many there are, in 4 bytes, and the code of each. An `Err` leaves what was
 /// there.
 pub fn put_kinds(out: &mut Vec<u8>, kinds: &[Kind]) -> Result<(), AllocError>
-    requires plain { All IsPlain kinds.now }
     ensures put { OnOk result (out.new.items ≡ out.old.items ++ to_le_bytes w32 (length kinds.now) ++ codes_of kinds.now) }
     ensures err { OnErr result (out.new.items ≡ out.old.items) }
 {
@@ -51,45 +49,34 @@ fn put_columns(out: &mut Vec<u8>, columns: usize) -> Result<(), AllocError>
 
 // Puts the codes of kinds behind `out`.
 fn put_codes(out: &mut Vec<u8>, kinds: &[Kind]) -> Result<(), AllocError>
-    requires plain { All IsPlain kinds.now }
     ensures { OnOk result (out.new.items ≡ out.old.items ++ codes_of kinds.now) }
 {
     for i in 0..kinds.len() {
-        let code = [code_of(kinds[i])];
-        out.extend_from_slice(&code)?;
+        put_code(out, kinds[i])?;
     }
     Ok(())
 }
 
-// The code of a kind.
-fn code_of(kind: Kind) -> u8
-    requires plain { IsPlain kind }
-    ensures { result ∷ [] ≡ kind_code kind }
+// Puts the code of a kind behind `out`.
+fn put_code(out: &mut Vec<u8>, kind: Kind) -> Result<(), AllocError>
+    ensures { OnOk result (out.new.items ≡ out.old.items ++ kind_code kind) }
 {
     match kind {
-        Kind::Plain(scalar) => code_of_scalar(scalar),
-        Kind::State(..) => {
-            prove!(false);
-            0
-        }
+        Kind::Plain(scalar) => out.extend_from_slice(&[scalar_code(scalar)]),
+        Kind::State(agg, arg) => out.extend_from_slice(&[state_code(agg), scalar_code(arg)]),
     }
 }
 
-// The code of a kind of plain values.
-fn code_of_scalar(scalar: Scalar) -> u8
-    ensures { result ≡ scalar_code scalar }
+// The code of states of a function: 16 and its number.
+fn state_code(agg: AggName) -> u8
+    ensures { result ≡ 16 + agg_number agg }
 {
-    match scalar {
-        Scalar::UInt8 => 1,
-        Scalar::UInt16 => 2,
-        Scalar::UInt32 => 3,
-        Scalar::UInt64 => 4,
-        Scalar::Int8 => 5,
-        Scalar::Int16 => 6,
-        Scalar::Int32 => 7,
-        Scalar::Int64 => 8,
-        Scalar::Bool => 9,
-        Scalar::Text => 10,
+    match agg {
+        AggName::Count => 16,
+        AggName::Sum => 17,
+        AggName::Min => 18,
+        AggName::Max => 19,
+        AggName::UniqExact => 20,
     }
 }
 
