@@ -58,8 +58,8 @@ whole_in (Some integers) bytes = option_map (λ cut. (Whole (int_value integers 
 
 -- the truth in front of bytes
 abbrev pub truth_in : List ℕ → Option (Value × List ℕ)
-truth_in (0 ∷ bytes) = Some (Truth false, bytes)
-truth_in (1 ∷ bytes) = Some (Truth true, bytes)
+truth_in (zero ∷ bytes) = Some (Truth false, bytes)
+truth_in (suc zero ∷ bytes) = Some (Truth true, bytes)
 truth_in other = None
 
 -- the text in front of bytes, behind its length, which is 1,048,576 at most
@@ -90,8 +90,8 @@ rises (value ∷ (next ∷ values)) = is_lt (value_cmp value next) && rises (nex
 
 -- the value in front of bytes, behind the byte 1, or none behind the byte 0
 abbrev pub found_in : Scalar → List ℕ → Option (Option Value × List ℕ)
-found_in arg (0 ∷ bytes) = Some (None, bytes)
-found_in arg (1 ∷ bytes) = option_map (λ read. (Some read.0, read.1)) (scalar_in arg bytes)
+found_in arg (zero ∷ bytes) = Some (None, bytes)
+found_in arg (suc zero ∷ bytes) = option_map (λ read. (Some read.0, read.1)) (scalar_in arg bytes)
 found_in arg other = None
 
 -- the values of a list in front of bytes, behind their number, where they rise
