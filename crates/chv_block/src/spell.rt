@@ -2,6 +2,7 @@
 ghost use Rattle.std.specs.Prelude.{◌≡◌, ◌++◌, OnOk, OnErr};
 ghost use Rattle.chv_types.specs.declared.aggregate.AggName.{AggName as SomeAgg};
 ghost use Rattle.chv_types.specs.declared.kind.Scalar.{Scalar as SomeScalar};
+ghost use Rattle.chv_types.specs.Order.{bytes};
 ghost use Rattle.chv_block.specs.Spellings.{IsOf, value_spelling};
 
 use chv_agg::spell_scalar;
@@ -23,11 +24,15 @@ pub fn spell_value(kind: Kind, v: &Value, out: &mut Vec<u8>) -> Result<(), Alloc
 
 // Puts the bytes of a state behind `out`.
 fn spell_state(v: &Value, out: &mut Vec<u8>) -> Result<(), AllocError>
-    ensures put { (agg : SomeAgg) (arg : SomeScalar) → IsOf (Kind.State agg arg) v.now → OnOk result (out.new.items ≡ out.old.items ++ value_spelling (Kind.State agg arg) v.now) }
+    requires state { (agg : SomeAgg) × (arg : SomeScalar) × IsOf (Kind.State agg arg) v.now }
+    ensures put { OnOk result (out.new.items ≡ out.old.items ++ bytes v.now) }
     ensures err { OnErr result (out.new.items ≡ out.old.items) }
 {
     match v {
         Value::State(bytes) => out.extend_from_slice(bytes.as_slice()),
-        _ => Ok(()),
+        _ => {
+            prove!(false);
+            Ok(())
+        }
     }
 }
