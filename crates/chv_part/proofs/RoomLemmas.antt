@@ -1,5 +1,5 @@
 -- How many bytes columns have at least.
-use Rattle.std.proofs.Common.{ℕ, ◌+◌, ◌*◌, ◌≤◌, List, [], ◌∷◌, length, true, false, Option, Some, None, arith, length-append}
+use Rattle.std.proofs.Common.{ℕ, ◌+◌, ◌*◌, ◌≤◌, List, [], ◌∷◌, length, true, false, Option, Some, None, sym, subst, arith, length-append}
 use Rattle.std.specs.List.{slice_get}
 use Rattle.chv_types.specs.declared.kind.Kind.{Kind}
 use Rattle.chv_types.specs.declared.kind.Kind.TheVariants as kind
@@ -8,7 +8,9 @@ use Rattle.chv_types.specs.declared.kind.Scalar.TheVariants as scalar
 use Rattle.chv_types.specs.declared.value.Value.{Value}
 use Rattle.chv_types.specs.declared.value.Value.TheVariants.{Whole, Truth, Text, State}
 use Rattle.chv_types.specs.Fits.{IsOfScalar}
-use Rattle.chv_block.specs.Spellings.{IsOf, scalar_spelling, value_spelling, AllAreOf}
+use Rattle.chv_agg.specs.Plain.{scalar_spelling}
+use Rattle.chv_agg.proofs.StateByteLemmas.{some_state}
+use Rattle.chv_block.specs.Spellings.{IsOf, value_spelling, AllAreOf}
 use Rattle.chv_part.specs.Columns.{IsSomeOf, ColumnIsOf}
 use Rattle.chv_part.specs.Parts.{spelled, column_spelling, columns_spelling}
 use Rattle.chv_part.proofs.ColumnLemmas.{tails, column_fits, others_fit, from_first}
@@ -32,7 +34,10 @@ scalar_byte plain (State spelling) of = absurd of
 
 value_byte : (kind : Kind) (value : Value) → IsOf kind value → 1 ≤ length (value_spelling kind value)
 value_byte (kind.Plain plain) value of = scalar_byte plain value of
-value_byte (kind.State agg plain) value of = absurd of
+value_byte (kind.State agg plain) (State spelling) of = subst (λ (l : List ℕ). 1 ≤ length l) (sym of.spelled) (some_state plain of.state)
+value_byte (kind.State agg plain) (Whole n) of = absurd of
+value_byte (kind.State agg plain) (Truth truth) of = absurd of
+value_byte (kind.State agg plain) (Text text) of = absurd of
 
 byte_at_place : (kind : Kind) (value : Option Value) → IsSomeOf kind value → 1 ≤ length (spelled kind value)
 byte_at_place kind None of = absurd of

@@ -7,7 +7,6 @@ use Rattle.chv_merge.specs.NormalForms.{normal_form}
 use Rattle.chv_part.specs.Arriving.{fresh, with_part}
 use Rattle.chv_sip.specs.BlockIds.{id_eq, last_ids}
 use Rattle.chv_sip.specs.declared.block_id.BlockId.{BlockId}
-use Rattle.chv_types.specs.Values.{IsPlain}
 use Rattle.chv_types.specs.declared.kind.Kind.{Kind}
 use Rattle.chv_types.specs.declared.table.Engine.{Engine}
 use Rattle.chv_types.specs.declared.value.Value.{Value}
@@ -20,11 +19,10 @@ pub record TableForm : Type 0 where
   pub kinds : List Kind
   pub key : List ℕ
 
--- the kinds of a table's columns: from 1 to 64, of plain values so far
+-- the kinds of a table's columns: from 1 to 64
 pub record AreColumns (kinds : List Kind) : Type 0 where
   pub some : 1 ≤ length kinds
   pub most : length kinds ≤ 64
-  pub plain : All IsPlain kinds
 
 -- a block that arrived in a table: its id, and its rows in normal form
 pub record Entry : Type 0 where

@@ -1,7 +1,5 @@
 // The files of parts.
 ghost use Rattle.std.specs.Prelude.{◌≡◌, ◌≤◌, ◌+◌, ◌++◌, IfOk, OnOk, length, drop, slice_get};
-ghost use Rattle.std.specs.List.{All};
-ghost use Rattle.chv_types.specs.Values.{IsPlain};
 ghost use Rattle.chv_block.specs.Spellings.{AllAreOf};
 ghost use Rattle.chv_part.specs.Columns.{IsSomeOf, ColumnIsOf};
 ghost use Rattle.chv_part.specs.Parts.{spelled, column_spelling, columns_spelling, part_body, part_frame, part_file};
@@ -22,7 +20,6 @@ pub const FRAME_BYTES: usize = 24;
 /// The rows are put in the order that they have.
 #[tactic(auto, unfolding(crate::specs::Parts::part_file))]
 pub fn encode_part(alloc: Global, kinds: &Kinds, block: &Block) -> Result<Bytes, AllocError>
-    requires plain { All IsPlain kinds.now }
     requires rows { AllAreOf kinds.now block.now }
     ensures { IfOk result (λ file. file ≡ part_file kinds.now block.now) }
 {
@@ -47,7 +44,6 @@ fn fill_frame(file: &mut [u8])
 
 // Puts the body of a part behind `out`.
 fn put_body(out: &mut Vec<u8>, kinds: &[Kind], rows: &[Row]) -> Result<(), AllocError>
-    requires plain { All IsPlain kinds.now }
     requires rows { AllAreOf kinds.now rows.now }
     ensures { OnOk result (out.new.items ≡ out.old.items ++ part_body kinds.now rows.now) }
 {

@@ -3,8 +3,6 @@ ghost use Rattle.std.specs.Prelude.{◌≡◌, ◌≢◌, ◌++◌, ◌+◌, ◌
 ghost use Rattle.std.specs.Int.{w64, to_le_bytes};
 ghost use Rattle.chv_site.specs.Outside.{bytes_in};
 ghost use Rattle.chv_site.specs.Effects.{OnlyReads};
-ghost use Rattle.std.specs.List.{All};
-ghost use Rattle.chv_types.specs.Values.{IsPlain};
 ghost use Rattle.chv_types.specs.declared.value.Value.{Value};
 ghost use Rattle.chv_block.specs.Spellings.{AllAreOf};
 ghost use Rattle.chv_part.specs.Books.{TableForm, AreColumns};
@@ -172,7 +170,6 @@ fn split_number(bytes: &[u8]) -> Option<(u64, &[u8])>
 fn body_rows(alloc: Global, body: &[u8], kinds: &Kinds) -> Result<Option<Block>, AllocError>
     requires some { 1 ≤ length kinds.now }
     requires most { length kinds.now ≤ 64 }
-    requires plain { All IsPlain kinds.now }
     ensures some { IfOk result (λ read. IfSome read (λ rows. AllAreOf kinds.now rows × (body.now ≡ part_body kinds.now rows))) }
     ensures none { IfOk result (λ read. IsNone read → (rows : List (List Value)) → AllAreOf kinds.now rows → body.now ≢ part_body kinds.now rows) }
 {
@@ -191,7 +188,6 @@ fn split_head<'a>(
     kinds: &[Kind],
 ) -> Result<Option<(usize, &'a [u8])>, AllocError>
     requires some { 1 ≤ length kinds.now }
-    requires plain { All IsPlain kinds.now }
     ensures head { IfOk result (λ read. IfSome read (λ x. body.now ≡ head_spelling kinds.now x.0 ++ x.1.now)) }
     ensures fits { IfOk result (λ read. IfSome read (λ x. (x.0 < 2 ^ 64) × (length x.1.now < 2 ^ 64))) }
     ensures room { IfOk result (λ read. IfSome read (λ x. x.0 * length kinds.now ≤ length x.1.now)) }
@@ -218,7 +214,6 @@ fn read_rows(
     kinds: &[Kind],
     count: usize,
 ) -> Result<Option<Block>, AllocError>
-    requires plain { All IsPlain kinds.now }
     requires room { count * length kinds.now ≤ length bytes.now }
     ensures count { IfOk result (λ read. IfSome read (λ rows. length rows ≡ count)) }
     ensures kinds { IfOk result (λ read. IfSome read (λ rows. AllAreOf kinds.now rows)) }
@@ -254,7 +249,6 @@ fn read_columns(
     kinds: &[Kind],
     rows: &mut [Row],
 ) -> Result<Option<usize>, AllocError>
-    requires plain { All IsPlain kinds.now }
     requires empty { AllAreOf [] rows.old }
     ensures kinds { IfOk result (λ read. IfSome read (λ behind. AllAreOf kinds.now rows.new)) }
     ensures columns { IfOk result (λ read. IfSome read (λ behind. bytes.now ≡ columns_spelling 0 kinds.now rows.new ++ drop behind bytes.now)) }
@@ -278,7 +272,6 @@ fn read_column(
     at: usize,
     rows: &mut [Row],
 ) -> Result<Option<usize>, AllocError>
-    requires plain { IsPlain kind }
     ensures gained { IfOk result (λ read. IfSome read (λ behind. HasGained kind (length rows.old) rows.old rows.new bytes.now at behind)) }
     ensures none { IfOk result (λ read. IsNone read → (place : ℕ) (given : List (List Value)) (rest : List ℕ) → length given ≡ length rows.old
         → ColumnIsOf kind place given → drop at bytes.now ≢ column_spelling kind place given ++ rest) }
