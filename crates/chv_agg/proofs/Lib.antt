@@ -1,3 +1,5 @@
+pub mod FrontLemmas
 pub mod PlainLemmas
 pub mod ReadingLemmas
 pub mod SetLemmas
+pub mod StateFrontLemmas

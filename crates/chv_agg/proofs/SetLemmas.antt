@@ -17,7 +17,7 @@ use Rattle.chv_agg.specs.StateReading.{follows, Gains, RiseAt}
 use Rattle.chv_agg.proofs.PlainLemmas.{one_scalar}
 
 -- an order that tests as less is Less
-is_lt-Less : (o : Ordering) → is_lt o ≡ true → o ≡ Less
+pub is_lt-Less : (o : Ordering) → is_lt o ≡ true → o ≡ Less
 is_lt-Less Less e = refl
 is_lt-Less Equal e = cc
 is_lt-Less Greater e = cc

@@ -77,7 +77,7 @@ text_in bytes =
     option_and_then (λ head.
     if nat_le (little_number 4 head.0) 1048576
     then option_map (λ cut. (Text cut.0, cut.1)) (front_of (little_number 4 head.0) head.1)
-    else None) (front_of 4 bytes)
+    else None) (word_of 4 bytes)
 
 -- the value of a kind in front of bytes
 unfoldable pub scalar_in : Scalar → List ℕ → Option (Value × List ℕ)

@@ -2,6 +2,7 @@
 #![tactic(auto)]
 
 mod any_agg;
+mod byte_laws;
 mod plain;
 mod reading;
 mod spelling;
@@ -9,6 +10,7 @@ mod states;
 mod tally;
 
 pub use any_agg::{AnyAgg, ValueSet};
+pub use byte_laws::{law_state_front, law_state_in, law_state_in_fits, law_state_reads_back};
 pub use plain::{plain_size, read_scalar, scalar_code, spell_scalar};
 pub use reading::any_read;
 pub use spelling::any_spell;
