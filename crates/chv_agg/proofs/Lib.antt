@@ -1,2 +1,6 @@
+pub mod FrontLemmas
 pub mod PlainLemmas
+pub mod ReadingLemmas
+pub mod SetLemmas
 pub mod StateByteLemmas
+pub mod StateFrontLemmas

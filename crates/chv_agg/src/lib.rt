@@ -2,11 +2,17 @@
 #![tactic(auto)]
 
 mod any_agg;
+mod byte_laws;
 mod plain;
+mod reading;
+mod spelling;
 mod states;
 mod tally;
 
 pub use any_agg::{AnyAgg, ValueSet};
+pub use byte_laws::{law_state_front, law_state_in, law_state_in_fits, law_state_reads_back};
 pub use plain::{plain_size, read_scalar, scalar_code, spell_scalar};
-pub use states::{any_add, any_finish, any_merge, any_read, any_spell, any_unit};
+pub use reading::any_read;
+pub use spelling::any_spell;
+pub use states::{any_add, any_finish, any_merge, any_unit};
 pub use tally::Tally;
