@@ -1,3 +1,9 @@
+pub mod AcceptedLemmas
+pub mod ArrivalLemmas
+pub mod DefinitionLemmas
+pub mod JoinLemmas
+pub mod LiteralLemmas
+pub mod LiteralRowLemmas
 pub mod NameLemmas
 pub mod OutputLemmas
 pub mod QueryLemmas

@@ -1,10 +1,10 @@
 -- Rows that are shown as they are.
-use Rattle.std.proofs.Common.{◌≡◌, ◌<◌, ◌+◌, ◌++◌, ◌∙◌, ℕ, zero, suc, false, List, [], ◌∷◌, length, drop, map, slice_get, Option, None, Some, is_none, pos, refl, sym, ap, subst, arith, option_map}
+use Rattle.std.proofs.Common.{◌≡◌, ◌+◌, ◌∙◌, ℕ, suc, List, [], ◌∷◌, length, drop, map, slice_get, None, Some, is_none, pos, refl, sym, ap, subst, arith, option_map}
 use Rattle.std.proofs.Math.Seq.{drop-cons}
 use Rattle.std.proofs.lemmas.List.{drop_all}
 use Rattle.std.proofs.lemmas.List.Elements.{All-head, All-tail}
 use Rattle.std.proofs.lemmas.Option.{unwrap_or-slice_get}
-use Rattle.std.specs.List.{All, position}
+use Rattle.std.specs.List.{All}
 use Rattle.std.specs.Option.{option_and_then}
 use Rattle.chv_catalog.proofs.Positions.{position-cons}
 use Rattle.chv_types.specs.declared.value.Value.{Value}

@@ -1,4 +1,9 @@
+pub mod Accepted
+pub mod Arrivals
 pub mod Bound
+pub mod Definitions
+pub mod Literals
+pub mod Plans
 pub mod Queries
 pub mod Results
 pub mod Shown

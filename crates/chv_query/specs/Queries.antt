@@ -11,6 +11,7 @@ use Rattle.chv_ast.specs.declared.statement.Item.TheVariants as shown
 use Rattle.chv_ast.specs.declared.statement.Order.{Order}
 use Rattle.chv_ast.specs.declared.statement.Select.{Select}
 use Rattle.chv_catalog.specs.Checks.{is_state}
+use Rattle.chv_catalog.specs.Schemas.{Catalog}
 use Rattle.chv_query.specs.Tables.{table_of}
 use Rattle.chv_catalog.specs.declared.table_def.TableDef.{TableDef}
 use Rattle.chv_print.specs.ExprTexts.{expr_text}
@@ -116,8 +117,8 @@ asked_of table def select =
     Ok (record { table = table; def = def; filter = filter; outputs = outputs; order = order; limit = limit })))))
 
 -- what a query without grouping asks, or the first check that refuses it
-unfoldable pub asked : List TableDef → Select → Result Asked Refusal
-asked tables select = and_then (table_of tables select.table) (λ found. asked_of found.0 found.1 select)
+unfoldable pub asked : Catalog → Select → Result Asked Refusal
+asked catalog select = and_then (table_of catalog select.table) (λ found. asked_of found.0 found.1 select)
 
 -- what a query makes of a row
 abbrev pub made_of : Asked → List Value → Option (List (List Value))
@@ -134,3 +135,7 @@ divides query = division_in (made_of query)
 -- the first of these rows on which a query divides by zero
 abbrev pub first_division : Asked → List (List Value) → Option ℕ
 first_division query = first_division_in (made_of query)
+
+-- the form of a query cannot see which rows of its table merges have made one: a query without grouping shows each of them
+abbrev pub is_merge_blind : Asked → Bool
+is_merge_blind query = false

@@ -1,5 +1,7 @@
 // Queries.
 ghost use Rattle.std.specs.Prelude.{◌≡◌};
+ghost use Rattle.chv_query.specs.Bound.{IsQuery};
+ghost use Rattle.chv_query.specs.Queries.{Asked, is_merge_blind};
 
 use chv_expr::Bound;
 use chv_types::Columns;
@@ -52,5 +54,13 @@ impl Query {
         ensures { result ≡ self.now.limit }
     {
         self.limit
+    }
+
+    /// Whether the form of what is asked cannot see which rows of its table merges have made one. A query without grouping
+    /// shows each of them.
+    pub fn merge_blind(&self) -> bool
+        ensures { (asked : Asked) → IsQuery self.now asked → result ≡ is_merge_blind asked }
+    {
+        false
     }
 }
