@@ -82,10 +82,10 @@ AllAreOf-from_each : (kinds : List Kind) (rows : List (List Value)) → All (Are
 AllAreOf-from_each kinds [] each = tt
 AllAreOf-from_each kinds (row ∷ rows) each = (All-head (AreOf kinds) row rows each, AllAreOf-from_each kinds rows (All-tail (AreOf kinds) row rows each))
 
-AllAreOf-normal_form : (kinds : List Kind) (key : List ℕ) (rows : List (List Value)) → AllAreOf kinds rows → AllAreOf kinds (normal_form key rows)
+pub AllAreOf-normal_form : (kinds : List Kind) (key : List ℕ) (rows : List (List Value)) → AllAreOf kinds rows → AllAreOf kinds (normal_form key rows)
 AllAreOf-normal_form kinds key rows are = AllAreOf-from_each kinds (normal_form key rows) (normal_form-all (AreOf kinds) key rows (AllAreOf-each kinds rows are))
 
-AllAreOf-append : (kinds : List Kind) (a b : List (List Value)) → AllAreOf kinds a → AllAreOf kinds b → AllAreOf kinds (a ++ b)
+pub AllAreOf-append : (kinds : List Kind) (a b : List (List Value)) → AllAreOf kinds a → AllAreOf kinds b → AllAreOf kinds (a ++ b)
 AllAreOf-append kinds [] b of_a of_b = of_b
 AllAreOf-append kinds (row ∷ a) b of_a of_b = (of_a.0, AllAreOf-append kinds a b of_a.1 of_b)
 

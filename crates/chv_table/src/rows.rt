@@ -8,6 +8,7 @@ ghost use Rattle.chv_commit.specs.declared.part_row.PartRow.{PartRow as LivePart
 ghost use Rattle.chv_part.specs.Books.{AreColumns, TableForm, Book, normal_rows, rows_in, part_rows};
 ghost use Rattle.chv_part.specs.Parts.{IsPartFile};
 ghost use Rattle.chv_part.specs.declared.damage.Damage.{Damage};
+ghost use Rattle.chv_block.specs.Spellings.{AllAreOf};
 ghost use Rattle.chv_table.specs.Damage.{IsDamageOfPart, IsPartDamage, ArePartsWhole};
 ghost use Rattle.chv_table.specs.Faults.{part_fault_of};
 ghost use Rattle.chv_table.specs.Tables.{IsWithin, HoldsBook, held_form, held_state};
@@ -26,6 +27,7 @@ impl Table {
     pub fn rows<W: Site>(&self, alloc: Global, site: &mut W) -> Result<Block, TableFault>
         requires within { IsWithin self.now }
         ensures rows { W.tells → IfOk result (λ rows. (book : Book) → HoldsBook self.now (W.outside site.old).files book → rows ≡ normal_rows (held_form self.now) (rows_in book)) }
+        ensures kinds { IfOk result (λ rows. AllAreOf self.now.kinds rows) }
         ensures whole { W.tells → OnOk result (ArePartsWhole self.now.number (held_form self.now) (held_state self.now).layout (bytes_in (W.outside site.old))) }
         ensures damaged { W.tells → (damage : Damage) → IsErrOf result (TableFault.Damaged damage)
             → IsPartDamage self.now.number (held_form self.now) (held_state self.now).layout (bytes_in (W.outside site.old)) damage }
@@ -40,6 +42,7 @@ impl Table {
         requires columns { AreColumns self.now.kinds }
         ensures rows { W.tells → IfOk result (λ rows. (book : Book) → HoldsBook self.now (W.outside site.old).files book
             → rows.items ≡ flat_map (λ (row : LivePart). part_rows (held_form self.now) book row.lo row.hi) (held_state self.now).layout) }
+        ensures kinds { IfOk result (λ rows. AllAreOf self.now.kinds rows.items) }
         ensures whole { W.tells → OnOk result (ArePartsWhole self.now.number (held_form self.now) (held_state self.now).layout (bytes_in (W.outside site.old))) }
         ensures damaged { W.tells → (damage : Damage) → IsErrOf result (TableFault.Damaged damage)
             → IsPartDamage self.now.number (held_form self.now) (held_state self.now).layout (bytes_in (W.outside site.old)) damage }
@@ -64,6 +67,7 @@ fn read_live_part<W: Site>(
 ) -> Result<Block, TableFault>
     requires columns { AreColumns kinds.now }
     ensures read { W.tells → IfOk result (λ rows. (form : TableForm) → form.kinds ≡ kinds.now → IsPartFile form rows (bytes_in (W.outside site.old) (part_of table part))) }
+    ensures kinds { IfOk result (λ rows. AllAreOf kinds.now rows) }
     ensures damaged { W.tells → (damage : Damage) → IsErrOf result (TableFault.Damaged damage) → (form : TableForm) → form.kinds ≡ kinds.now
         → IsDamageOfPart table form part (bytes_in (W.outside site.old) (part_of table part)) damage }
     ensures keeps { OnlyReads W.tells (IsErrOf result TableFault.Failed) (W.outside site.old) (W.outside site.new) }

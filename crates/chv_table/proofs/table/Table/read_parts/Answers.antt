@@ -7,7 +7,7 @@ use Rattle.chv_site.specs.Files.{FileState}
 use Rattle.chv_site.specs.Outside.{bytes_in}
 use Rattle.chv_commit.specs.declared.part_row.PartRow.{PartRow}
 use Rattle.chv_part.specs.Parts.{IsPartFile}
-use Rattle.chv_part.proofs.BookRowLemmas.{rows_of_parts}
+use Rattle.chv_part.proofs.BookRowLemmas.{AllAreOf-append, rows_of_parts}
 use Rattle.chv_table.specs.Damage.{ArePartsWhole, IsDamageOfPart}
 use Rattle.chv_table.specs.Tables.{held_form}
 use Rattle.chv_table.specs.declared.fault.TableFault.{TableFault}
@@ -52,6 +52,9 @@ loop-row-preserved g c =
           rw (c.in_ok-append.ensures.items, c.into_vec.ensures)
           (rows_more table before.files book place c.loop-row.rows.items c.in_ok-read.read held within short (read_is tells) (c.loop-row.invariant.rows tells book held));
       whole = λ tells. whole_more table.number form layout place (bytes_in before) within (c.loop-row.invariant.whole tells) (c.in_ok-read.read, read_is tells);
+      kinds =
+          let short : length c.in_ok-read.read < 2 ^ 64 = omega (arith, ap length c.into_vec.ensures, c.into_vec.result.ok, c.into_vec.result.small) in
+          rw (c.in_ok-append.ensures.items, c.into_vec.ensures) (AllAreOf-append table.kinds c.loop-row.rows.items c.in_ok-read.read c.loop-row.invariant.kinds c.in_ok-read.ensures.kinds);
       keeps = reads_on ⊥ (Ok c.in_ok-read.read ≡ Err TableFault.Failed) ⊥ before (S.outside c.loop-row.site) (S.outside c.read_live_part.new.site)
           (λ none. none) (λ none. absurd none) (λ failed. absurd (cc failed)) S.tells c.loop-row.invariant.keeps c.in_ok-read.ensures.keeps;
     }

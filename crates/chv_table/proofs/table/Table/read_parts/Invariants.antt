@@ -2,6 +2,7 @@
 use Rattle.std.proofs.Common.{◌≡◌, take}
 use Rattle.chv_site.specs.Effects.{OnlyReads}
 use Rattle.chv_site.specs.Outside.{bytes_in}
+use Rattle.chv_block.specs.Spellings.{AllAreOf}
 use Rattle.chv_part.specs.Books.{Book}
 use Rattle.chv_part.proofs.BookRowLemmas.{rows_of_parts}
 use Rattle.chv_table.specs.Damage.{ArePartsWhole}
@@ -15,5 +16,6 @@ invariant-loop-row g l =
     record {
       rows : S.tells → (book : Book) → HoldsBook l.self before.files book → l.rows.items ≡ rows_of_parts (held_form l.self) book (take l.row-index l.self.replay.state.layout);
       whole : S.tells → ArePartsWhole l.self.number (held_form l.self) (take l.row-index l.self.replay.state.layout) (bytes_in before);
+      kinds : AllAreOf l.self.kinds l.rows.items;
       keeps : OnlyReads S.tells ⊥ before (S.outside l.site);
     }
