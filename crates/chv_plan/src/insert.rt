@@ -9,7 +9,6 @@ ghost use Rattle.chv_catalog.specs.Schemas.{kinds_of};
 ghost use Rattle.chv_part.specs.Books.{MAX_ROWS};
 ghost use Rattle.chv_part.specs.Forms.{form_of};
 ghost use Rattle.chv_sip.specs.BlockIds.{id_of, content_key, source_id};
-ghost use Rattle.chv_types.specs.Values.{IsPlain};
 ghost use Rattle.chv_types.specs.declared.value.Value.{Value as SomeValue};
 ghost use Rattle.chv_query.specs.Arrivals.{arrival_of};
 ghost use Rattle.chv_query.specs.Plans.{AreBlocks, Delivery as Planned, planned, planned_for, rows_for, sized_rows, is_long, source_of};
@@ -35,11 +34,10 @@ use std::alloc::{AllocError, Global};
 const MAX_ROWS: usize = 1048576;
 
 /// What an INSERT brings to its table: blocks that are ready to be delivered, in order. It is refused by the first check that
-/// holds. So far no column of the tables is a state.
+/// holds.
 #[tactic(auto, unfolding(chv_query::specs::Plans::planned))]
 pub fn plan_insert(alloc: Global, schema: &Schema, insert: &Insert) -> Result<Plan, StatementFault>
     requires formed { FormedInsert insert.now }
-    requires plain { All (λ def. All IsPlain (kinds_of def)) schema.now.catalog.tables }
     requires few { All (λ def. length (kinds_of def) ≤ 64) schema.now.catalog.tables }
     ensures planned { IfOk result (λ held. (plan : List Planned) × (planned schema.now.catalog insert.now ≡ Ok plan) × DeliversAll schema.now.catalog.tables held.deliveries plan) }
     ensures one_table { IfOk result (λ held. (table : ℕ) × All (λ delivery. delivery.table ≡ table) held.deliveries) }
@@ -60,7 +58,6 @@ fn plan_for(
     insert: &Insert,
 ) -> Result<Plan, StatementFault>
     requires some { 1 ≤ length insert.now.rows }
-    requires plain { All IsPlain (kinds_of def.now) }
     requires few { length (kinds_of def.now) ≤ 64 }
     ensures planned { IfOk result (λ held. Brings table def.now insert.now held.deliveries) }
     ensures refused { IfErr result (λ fault. (refusal : Refusal) → fault ≡ StatementFault.Refused refusal → planned_for table def.now insert.now ≡ Err refusal) }
@@ -86,7 +83,6 @@ fn blocks_for(
     sizes: Sizes,
     rows: &[LiteralRow],
 ) -> Result<Vec<Block>, StatementFault>
-    requires plain { All IsPlain kinds.now }
     requires few { length kinds.now ≤ 64 }
     requires places { ArePlaces (length kinds.now) places.now }
     requires sizes { 1 ≤ sizes.max_rows }
@@ -127,7 +123,6 @@ fn deliveries_of(
     blocks: Vec<Block>,
 ) -> Result<Items<Delivery>, AllocError>
     requires kinds { kinds.now ≡ kinds_of def.now }
-    requires plain { All IsPlain kinds.now }
     requires blocks { All (AllAreOf kinds.now) blocks.items }
     requires few { length blocks.items ≤ MAX_ROWS }
     requires token { is_long token.now ≡ false }
@@ -153,7 +148,6 @@ fn delivery_of(
     block: Block,
 ) -> Result<Delivery, AllocError>
     requires kinds { kinds.now ≡ kinds_of def.now }
-    requires plain { All IsPlain kinds.now }
     requires rows { AllAreOf kinds.now block }
     requires token { is_long token.now ≡ false }
     ensures { IfOk result (λ held. Holds table (kinds_of def.now) (arrival_of (form_of def.now) (source_of (kinds_of def.now) token.now number block) block) held) }
@@ -179,7 +173,6 @@ fn block_id(
     number: u32,
     block: &Block,
 ) -> Result<BlockId, AllocError>
-    requires plain { All IsPlain kinds.now }
     requires rows { AllAreOf kinds.now block.now }
     requires token { is_long token.now ≡ false }
     ensures { IfOk result (λ id. id ≡ source_id (source_of kinds.now token.now number block.now)) }
@@ -192,7 +185,6 @@ fn block_id(
 
 // The id of a block by its content, in the order of arrival.
 fn content_id(alloc: Global, kinds: &Kinds, block: &Block) -> Result<BlockId, AllocError>
-    requires plain { All IsPlain kinds.now }
     requires rows { AllAreOf kinds.now block.now }
     ensures { IfOk result (λ id. id ≡ id_of (content_key (block_spelling kinds.now block.now))) }
 {

@@ -2,8 +2,8 @@
 ghost use Rattle.std.specs.Prelude.{◌≡◌, ◌<◌, length, map, Ok, Err, IfOk, IfErr};
 ghost use Rattle.std.specs.List.{All};
 ghost use Rattle.chv_ast.specs.declared.refusal.Refusal.{Refusal};
-ghost use Rattle.chv_types.specs.Values.{IsPlain, default_of};
-ghost use Rattle.chv_block.specs.Spellings.{IsOf, AreOf};
+ghost use Rattle.chv_types.specs.Values.{default_of};
+ghost use Rattle.chv_block.specs.Spellings.{IsOf, AreOf, IsSmall};
 ghost use Rattle.chv_plan.specs.Places.{ArePlaces, written};
 ghost use Rattle.chv_query.specs.Plans.{value_for, row_for};
 
@@ -20,10 +20,10 @@ pub fn row_for(
     places: &[u32],
     literals: &[Literal],
 ) -> Result<Row, StatementFault>
-    requires plain { All IsPlain kinds.now }
     requires places { ArePlaces (length kinds.now) places.now }
     ensures row { IfOk result (λ row. row_for kinds.now places.now literals.now ≡ Ok row) }
     ensures kinds { IfOk result (λ row. AreOf kinds.now row) }
+    ensures small { IfOk result (λ row. All IsSmall row) }
     ensures refused { IfErr result (λ fault. (refusal : Refusal) → fault ≡ StatementFault.Refused refusal → row_for kinds.now places.now literals.now ≡ Err refusal) }
 {
     if literals.len() != places.len() {
@@ -55,8 +55,10 @@ fn written_row(
     requires places { ArePlaces (length kinds.now) places.now }
     requires width { length literals.now ≡ length places.now }
     requires kinds { AreOf kinds.now row.items }
+    requires small { All IsSmall row.items }
     ensures row { IfOk result (λ full. written kinds.now places.now literals.now row.items ≡ Ok full) }
     ensures kinds { IfOk result (λ full. AreOf kinds.now full) }
+    ensures small { IfOk result (λ full. All IsSmall full) }
     ensures refused { IfErr result (λ fault. (refusal : Refusal) → fault ≡ StatementFault.Refused refusal → written kinds.now places.now literals.now row.items ≡ Err refusal) }
 {
     for i in 0..literals.len() {
@@ -70,6 +72,7 @@ fn written_row(
 fn value_for(alloc: Global, kind: Kind, literal: &Literal) -> Result<Value, StatementFault>
     ensures value { IfOk result (λ value. value_for kind literal.now ≡ Ok value) }
     ensures kind { IfOk result (λ value. IsOf kind value) }
+    ensures small { IfOk result (λ value. IsSmall value) }
     ensures refused { IfErr result (λ fault. (refusal : Refusal) → fault ≡ StatementFault.Refused refusal → value_for kind literal.now ≡ Err refusal) }
 {
     match kind {

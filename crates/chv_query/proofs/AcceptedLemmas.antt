@@ -17,21 +17,10 @@ use Rattle.chv_catalog.specs.Schemas.{Catalog, definitions_in, kinds_of, names_o
 use Rattle.chv_catalog.specs.declared.table_def.TableDef.{TableDef}
 use Rattle.chv_print.specs.StatementTexts.{statement_text, table_text}
 use Rattle.chv_types.specs.Names.{place_of}
-use Rattle.chv_types.specs.Values.{IsPlain}
 use Rattle.chv_types.specs.declared.table.Column.{Column}
-use Rattle.chv_query.specs.Accepted.{Accepted, AreAccepted, Definition, Defines, IsAccepted, IsSchema, Table, catalog_of, is_built_create, is_built_table, is_plain, tables_in, tables_of, with_definition}
-use Rattle.chv_query.specs.Definitions.{IsPlainWord, defined, is_aggregating}
-use Rattle.chv_query.proofs.DefinitionLemmas.{passed, plain}
-
-plain_word : (word : KindWord) → is_plain word ≡ true → IsPlainWord word
-plain_word (kind.Plain name) is = tt
-plain_word (kind.Agg function arg) is = absurd (false≢true is)
-
-plain_words : (columns : List ColumnDef) → list_all (λ column. is_plain column.kind) columns ≡ true → All (λ (column : ColumnDef). IsPlainWord column.kind) columns
-plain_words [] are = All-nil (λ (column : ColumnDef). IsPlainWord column.kind)
-plain_words (column ∷ columns) are =
-    let both = and_parts (is_plain column.kind) (list_all (λ column. is_plain column.kind) columns) are in
-    All-cons (λ (column : ColumnDef). IsPlainWord column.kind) column columns (plain_word column.kind both.0) (plain_words columns both.1)
+use Rattle.chv_query.specs.Accepted.{Accepted, AreAccepted, Definition, Defines, IsAccepted, IsSchema, Table, catalog_of, is_built_create, is_built_table, tables_in, tables_of, with_definition}
+use Rattle.chv_query.specs.Definitions.{defined}
+use Rattle.chv_query.proofs.DefinitionLemmas.{passed}
 
 -- what a statement defines, it defines as a CREATE TABLE
 pub record IsTable (catalog : Catalog) (s : Statement) (def : TableDef) : Type 0 where
@@ -58,12 +47,6 @@ Defines-unique catalog s (Table a) (Table b) one other =
     same : (r : Result TableDef Refusal) → r ≡ Ok a → r ≡ Ok b → a ≡ b
     same r x y = cc
 
--- the columns of a table that is built have plain kinds
-built_words : (made : CreateTable) → is_built_table made ≡ true → All (λ (column : ColumnDef). IsPlainWord column.kind) made.columns
-unfolding is_built_table
-built_words made built =
-    plain_words made.columns (and_parts (not (is_aggregating made.engine)) (list_all (λ column. is_plain column.kind) made.columns) built).1
-
 some_text : (made : CreateTable) → 1 ≤ length (statement_text (statement.CreateTable made))
 unfolding statement_text table_text
 some_text made = omega arith
@@ -74,7 +57,6 @@ pub record IsBuilt (catalog : Catalog) (s : Statement) (def : TableDef) : Type 0
   pub few : definitions_in catalog < 256
   pub short : length (statement_text s) ≤ 1048576
   pub some : 1 ≤ length (statement_text s)
-  pub plain : All IsPlain (kinds_of def)
   pub columns : WellFormed s → (1 ≤ length (kinds_of def)) × (length (kinds_of def) ≤ 64)
 
 built_table : (catalog : Catalog) (made : CreateTable) (def : TableDef) → is_built_table made ≡ true → defined catalog made ≡ Ok def → IsBuilt catalog (statement.CreateTable made) def
@@ -86,7 +68,6 @@ built_table catalog made def built defines =
       few = checks.room;
       short = checks.short;
       some = some_text made;
-      plain = plain catalog made def defines (built_words made built);
       columns = λ formed. (omega (arith, many, checks.some formed), omega (arith, many, checks.few));
     }
 
@@ -109,9 +90,6 @@ module _ (catalog : Catalog) (s : Statement) (def : TableDef) (built : is_built_
   pub made_some : 1 ≤ length (statement_text s)
   made_some = is_built.some
 
-  pub made_plain : All IsPlain (kinds_of def)
-  made_plain = is_built.plain
-
   pub made_columns : WellFormed s → (1 ≤ length (kinds_of def)) × (length (kinds_of def) ≤ 64)
   made_columns = is_built.columns
 
@@ -119,14 +97,13 @@ module _ (catalog : Catalog) (s : Statement) (def : TableDef) (built : is_built_
 pub record IsMade (def : TableDef) : Type 0 where
   pub some : 1 ≤ length (kinds_of def)
   pub most : length (kinds_of def) ≤ 64
-  pub plain : All IsPlain (kinds_of def)
 
 one_made : (catalog : Catalog) (s : Statement) (definition : Definition) → is_built_create s ≡ true → WellFormed s → Defines catalog s definition → All IsMade (tables_in definition)
 one_made catalog s (Table def) built formed defines =
     let columns = made_columns catalog s def built defines formed in
-    All-cons IsMade def [] (record { some = columns.0; most = columns.1; plain = made_plain catalog s def built defines }) (All-nil IsMade)
+    All-cons IsMade def [] (record { some = columns.0; most = columns.1 }) (All-nil IsMade)
 
--- each table of a schema has from 1 to 64 columns of plain kinds
+-- each table of a schema has from 1 to 64 columns
 pub all_made : (catalog : Catalog) (schema : List Accepted) → AreAccepted catalog schema → All IsMade (tables_of schema)
 all_made catalog [] are = All-nil IsMade
 all_made catalog (accepted ∷ schema) are =

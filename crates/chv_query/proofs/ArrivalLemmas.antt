@@ -22,7 +22,6 @@ use Rattle.chv_part.specs.Naming.{Names}
 use Rattle.chv_types.specs.Names.{place_of}
 use Rattle.chv_types.specs.Steps.{and_then, or_refuse, refuse_if}
 use Rattle.chv_types.specs.Texts.{whole_number}
-use Rattle.chv_types.specs.Values.{IsPlain}
 use Rattle.chv_types.specs.declared.kind.Kind.{Kind}
 use Rattle.chv_types.specs.declared.table.Column.{Column}
 use Rattle.chv_types.specs.declared.value.Value.{Value}
@@ -92,9 +91,9 @@ blocks_arrive table def token from most (block ∷ blocks) short room are =
     (blocks_arrive table def token (from + 1) (most - length block) blocks short (omega (arith, are.1, are.2, room)) are.3)
 
 -- so do those of rows
-pub planned_for-arrives : (table : ℕ) (def : TableDef) (insert : Insert) (plan : List Delivery) → All IsPlain (kinds_of def) → planned_for table def insert ≡ Ok plan
+pub planned_for-arrives : (table : ℕ) (def : TableDef) (insert : Insert) (plan : List Delivery) → planned_for table def insert ≡ Ok plan
     → All (IsBrought table def) plan
-planned_for-arrives table def insert plan plain is =
+planned_for-arrives table def insert plan is =
     let names = filled_names (columns_of def) insert.columns in
     let places = places_of (columns_of def) names in
     let known = refuse_if-Ok (list_any (is_unknown (columns_of def)) names) UnknownColumn _ plan is in
@@ -108,7 +107,7 @@ planned_for-arrives table def insert plan plain is =
     let same : deliveries_of table def insert.settings.token 0 blocks ≡ plan = ok_same (deliveries_of table def insert.settings.token 0 blocks) plan written.2 in
     let wide : length (columns_of def) ≡ length (kinds_of def) = length-map def.columns (λ (column : Column). column.name) ∙ sym (length-map def.columns (λ (column : Column). column.kind)) in
     let within : AreWithin (length (kinds_of def)) places = subst (λ (n : ℕ). AreWithin n places) wide (places_of-AreWithin (columns_of def) names) in
-    let of = rows_kinds (kinds_of def) places insert.rows written.0 plain within written.1 in
+    let of = rows_kinds (kinds_of def) places insert.rows written.0 within written.1 in
     subst (All (IsBrought table def)) same
     (blocks_arrive table def insert.settings.token 0 MAX_ROWS blocks short.0 (omega arith)
     (AreBlocks-blocks_of (kinds_of def) sizes.0 written.0 MAX_ROWS (sizes_whole insert.settings sizes.0 sizes.1) of.0 (omega (arith, of.1, ltb-false MAX_ROWS (length insert.rows) few.0))))
@@ -132,16 +131,14 @@ found_stands catalog name found is =
     (omega arith, ap (slice_get tables) before ∙ there_is (slice_get tables place.0) there.0 there.1)
 
 -- each delivery that is planned is of an arrival in its table
-pub planned-arrives : (catalog : Catalog) (insert : Insert) (plan : List Delivery) → All (λ (def : TableDef). All IsPlain (kinds_of def)) catalog.tables → planned catalog insert ≡ Ok plan → All (ArrivesIn catalog.tables) plan
+pub planned-arrives : (catalog : Catalog) (insert : Insert) (plan : List Delivery) → planned catalog insert ≡ Ok plan → All (ArrivesIn catalog.tables) plan
 unfolding planned
-planned-arrives catalog insert plan plain is =
+planned-arrives catalog insert plan is =
     let tables = catalog.tables in
     let found = and_then-Ok (table_of catalog insert.table) (λ f. planned_for f.0 f.1 insert) plan is in
     let stands = found_stands catalog insert.table found.0 found.1 in
     let def : TableDef = found.0.1 in
     let within : found.0.0 - 1 < length tables = slice_get_within tables (found.0.0 - 1) def stands.1 in
-    let plain_there : All IsPlain (kinds_of def) =
-    subst (λ (d : TableDef). All IsPlain (kinds_of d)) (get_or_from_slice_get tables (found.0.0 - 1) def def stands.1) (plain (found.0.0 - 1) def within) in
     All-weaker (IsBrought found.0.0 def) (ArrivesIn tables)
     (λ delivery brought. record {
       first = subst (λ (n : ℕ). 1 ≤ n) (sym brought.table_is) stands.0;
@@ -149,4 +146,4 @@ planned-arrives catalog insert plan plain is =
       stands = subst (λ (n : ℕ). slice_get tables (n - 1) ≡ Some def) (sym brought.table_is) stands.1;
       arrives = brought.arrives;
     })
-    plan (planned_for-arrives found.0.0 def insert plan plain_there found.2)
+    plan (planned_for-arrives found.0.0 def insert plan found.2)

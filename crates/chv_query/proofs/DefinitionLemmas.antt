@@ -17,11 +17,10 @@ use Rattle.chv_catalog.specs.declared.table_def.TableDef.{TableDef}
 use Rattle.chv_print.specs.StatementTexts.{statement_text}
 use Rattle.chv_types.specs.Names.{place_of}
 use Rattle.chv_types.specs.Steps.{or_refuse}
-use Rattle.chv_types.specs.Values.{IsPlain}
 use Rattle.chv_types.specs.declared.kind.Kind.{Kind}
 use Rattle.chv_types.specs.declared.kind.Kind.TheVariants as kinds
 use Rattle.chv_types.specs.declared.table.Column.{Column}
-use Rattle.chv_query.specs.Definitions.{IsPlainWord, column_names, columns_of, defined, has_loose, has_state, is_aggregating, kind_of, scalar_of, table_with, window_of}
+use Rattle.chv_query.specs.Definitions.{column_names, columns_of, defined, has_loose, has_state, is_aggregating, kind_of, scalar_of, table_with, window_of}
 
 none_there : {A : Type 0} (o : Option A) → is_some o ≡ false → o ≡ None
 none_there None h = refl
@@ -48,27 +47,6 @@ length-columns_of (column ∷ columns) made h =
     let rest = and_then-Ok (columns_of columns) _ made kind.2 in
     let whole : made ≡ record { name = column.name; kind = kind.0 } ∷ rest.0 = cc rest.2 in
     rw (whole, length-columns_of columns rest.0 rest.1) refl
-
--- the word of a plain kind makes one
-plain_kind : (word : KindWord) (kind : Kind) → IsPlainWord word → kind_of word ≡ Ok kind → IsPlain kind
-unfolding kind_of
-plain_kind (kind_word.Agg function arg) kind plain h = absurd plain
-plain_kind (kind_word.Plain name) kind plain h =
-    let found = and_then-Ok (or_refuse TypeMismatch (scalar_of name)) (λ scalar. Ok (kinds.Plain scalar)) kind h in
-    let same : kinds.Plain found.0 ≡ kind = cc found.2 in
-    subst IsPlain same tt
-
--- so are the kinds of columns
-pub plain-columns_of : (columns : List ColumnDef) (made : List Column) → All (λ (column : ColumnDef). IsPlainWord column.kind) columns → columns_of columns ≡ Ok made
-    → All IsPlain (map (λ (column : Column). column.kind) made)
-plain-columns_of [] made plain h = let none : made ≡ [] = cc in rw none (All-nil IsPlain)
-plain-columns_of (column ∷ columns) made plain h =
-    let kind = and_then-Ok (kind_of column.kind) _ made h in
-    let rest = and_then-Ok (columns_of columns) _ made kind.2 in
-    let whole : made ≡ record { name = column.name; kind = kind.0 } ∷ rest.0 = cc rest.2 in
-    rw whole (All-cons IsPlain kind.0 (map (λ (column : Column). column.kind) rest.0)
-    (plain_kind column.kind kind.0 (All-head (λ (column : ColumnDef). IsPlainWord column.kind) column columns plain) kind.1)
-    (plain-columns_of columns rest.0 (All-tail (λ (column : ColumnDef). IsPlainWord column.kind) column columns plain) rest.1))
 
 some_columns : (columns : List ColumnDef) → EachOfSome FormedColumn columns → 1 ≤ length columns
 some_columns [] formed = absurd formed
@@ -103,7 +81,3 @@ module _ (catalog : Catalog) (made : CreateTable) where
         short = ltb-false 1048576 (length text) short.0;
         columns_are = columns.1;
       })
-
-  -- words of plain kinds alone make plain kinds alone
-  pub plain : (def : TableDef) → defined catalog made ≡ Ok def → All (λ (column : ColumnDef). IsPlainWord column.kind) made.columns → All IsPlain (kinds_of def)
-  plain def h words = plain-columns_of made.columns def.columns words (passed def h).columns_are

@@ -1,14 +1,15 @@
 -- Rows that literals write are of their columns' kinds.
-use Rattle.std.proofs.Common.{◌≡◌, ◌+◌, ◌<◌, ℕ, suc, Bool, true, false, not, List, [], ◌∷◌, length, map, get_or, Option, None, Some, Result, Ok, Err, if◌then◌else◌, nat_eq, nat_lt, refl, ap, subst, ◌∙◌, arith, rules, eqb-true}
+use Rattle.std.proofs.Common.{◌≡◌, ◌+◌, ◌<◌, ◌≤◌, ℕ, suc, Bool, true, false, not, List, [], ◌∷◌, length, map, get_or, Option, None, Some, Result, Ok, Err, if◌then◌else◌, nat_eq, nat_lt, refl, ap, subst, ◌∙◌, arith, rules, eqb-true}
 use Rattle.std.specs.List.{All, cons_option}
 use Rattle.std.proofs.lemmas.Int.{ints}
-use Rattle.std.proofs.lemmas.List.Elements.{All-head, All-tail}
+use Rattle.std.proofs.lemmas.List.Elements.{All-nil, All-cons}
 use Rattle.std.proofs.lemmas.Option.{slice_get-get_or}
 use Rattle.chv_ast.specs.declared.expr.Literal.{Literal}
 use Rattle.chv_ast.specs.declared.expr.Literal.TheVariants as literal
 use Rattle.chv_ast.specs.declared.refusal.Refusal.{Refusal}
 use Rattle.chv_ast.specs.declared.refusal.Refusal.TheVariants.{LimitPassed, WrongWidth}
-use Rattle.chv_block.specs.Spellings.{IsOf, AreOf, AllAreOf}
+use Rattle.chv_block.proofs.DefaultLemmas.{default_kind}
+use Rattle.chv_block.specs.Spellings.{IsOf, AreOf, AllAreOf, IsSmall}
 use Rattle.chv_catalog.proofs.SchemaLemmas.{place_of-within}
 use Rattle.chv_catalog.proofs.StepLemmas.{and_then-Ok, refuse_if-Ok}
 use Rattle.chv_catalog.specs.Checks.{places_of}
@@ -16,7 +17,8 @@ use Rattle.chv_types.specs.Fits.{IsOfScalar}
 use Rattle.chv_types.specs.Names.{place_of}
 use Rattle.chv_types.specs.Steps.{and_then}
 use Rattle.chv_types.specs.Texts.{value_of}
-use Rattle.chv_types.specs.Values.{IsPlain, default_of}
+use Rattle.chv_types.specs.Values.{default_of}
+use Rattle.chv_types.specs.declared.aggregate.AggName.TheVariants as agg
 use Rattle.chv_types.specs.declared.kind.Kind.{Kind}
 use Rattle.chv_types.specs.declared.kind.Kind.TheVariants as kind
 use Rattle.chv_types.specs.declared.kind.Scalar.{Scalar}
@@ -72,23 +74,39 @@ value_kind : (of : Kind) (l : Literal) (v : Value) → value_for of l ≡ Ok v �
 value_kind (kind.Plain plain) l v is = literal_kind plain l v is
 value_kind (kind.State agg arg) l v is = absurd cc
 
-default_kind : (of : Kind) → IsPlain of → IsOf of (default_of of)
-default_kind (kind.Plain scalar.UInt8) plain = search (rules, ints)
-default_kind (kind.Plain scalar.UInt16) plain = search (rules, ints)
-default_kind (kind.Plain scalar.UInt32) plain = search (rules, ints)
-default_kind (kind.Plain scalar.UInt64) plain = search (rules, ints)
-default_kind (kind.Plain scalar.Int8) plain = search (rules, ints)
-default_kind (kind.Plain scalar.Int16) plain = search (rules, ints)
-default_kind (kind.Plain scalar.Int32) plain = search (rules, ints)
-default_kind (kind.Plain scalar.Int64) plain = search (rules, ints)
-default_kind (kind.Plain scalar.Bool) plain = refl
-default_kind (kind.Plain scalar.Text) plain = (refl, omega arith)
-default_kind (kind.State agg arg) plain = absurd plain
+-- a default is small
+default_small : (of : Kind) → IsSmall (default_of of)
+default_small (kind.Plain scalar.UInt8) = omega arith
+default_small (kind.Plain scalar.UInt16) = omega arith
+default_small (kind.Plain scalar.UInt32) = omega arith
+default_small (kind.Plain scalar.UInt64) = omega arith
+default_small (kind.Plain scalar.Int8) = omega arith
+default_small (kind.Plain scalar.Int16) = omega arith
+default_small (kind.Plain scalar.Int32) = omega arith
+default_small (kind.Plain scalar.Int64) = omega arith
+default_small (kind.Plain scalar.Bool) = omega arith
+default_small (kind.Plain scalar.Text) = omega arith
+default_small (kind.State agg.Count arg) = omega arith
+default_small (kind.State agg.Sum arg) = omega arith
+default_small (kind.State agg.Min arg) = omega arith
+default_small (kind.State agg.Max arg) = omega arith
+default_small (kind.State agg.UniqExact arg) = omega arith
 
--- the defaults are of the kinds of their columns
-pub defaults_are : (kinds : List Kind) → All IsPlain kinds → AreOf kinds (map default_of kinds)
-defaults_are [] plain = tt
-defaults_are (first ∷ kinds) plain = (default_kind first (plain 0 first (omega arith)), defaults_are kinds (λ k d within. plain (suc k) d (omega (arith, within))))
+pub defaults_small : (kinds : List Kind) → All IsSmall (map default_of kinds)
+defaults_small [] = All-nil IsSmall
+defaults_small (first ∷ kinds) = All-cons IsSmall (default_of first) (map default_of kinds) (default_small first) (defaults_small kinds)
+
+-- a value of a plain kind is small
+scalar_small : (plain : Scalar) (v : Value) → IsOfScalar plain v → IsSmall v
+scalar_small plain (value.Whole n) of = omega arith
+scalar_small plain (value.Truth truth) of = omega arith
+scalar_small plain (value.Text text) of = of.1
+scalar_small plain (value.State spelling) of = absurd of
+
+-- a value that a literal writes is small
+pub value_small : (of : Kind) (l : Literal) (v : Value) → value_for of l ≡ Ok v → IsSmall v
+value_small (kind.Plain plain) l v is = scalar_small plain v (literal_kind plain l v is)
+value_small (kind.State agg arg) l v is = absurd cc
 
 -- what one step answers
 ok_same : {A : Type 0} (x y : A) → ◌≡◌ {A = Result A Refusal} (Ok x) (Ok y) → x ≡ y
@@ -133,41 +151,41 @@ module _ (kinds : List Kind) (none : Kind) where
       (value_kind (get_or kinds place none) l first.0 first.1, values_at places literals later.0 within.1 later.1)
 
   -- the value of the column at a place is of its kind
-  value_at_kind : (place : ℕ) (of : Kind) (places : List ℕ) (values : List Value) → get_or kinds place none ≡ of → IsPlain of → AreAt places values → IsOf of (value_at place of places values)
-  value_at_kind place of [] values at plain are = default_kind of plain
-  value_at_kind place of (filled ∷ places) [] at plain are = default_kind of plain
-  value_at_kind place of (filled ∷ places) (v ∷ values) at plain are =
+  value_at_kind : (place : ℕ) (of : Kind) (places : List ℕ) (values : List Value) → get_or kinds place none ≡ of → AreAt places values → IsOf of (value_at place of places values)
+  value_at_kind place of [] values at are = default_kind of
+  value_at_kind place of (filled ∷ places) [] at are = default_kind of
+  value_at_kind place of (filled ∷ places) (v ∷ values) at are =
       elim (nat_eq filled place) as (λ (b : Bool). nat_eq filled place ≡ b → IsOf of (if b then v else value_at place of places values)) [
         | true ↦ λ same. subst (λ (k : Kind). IsOf k v) (ap (λ (p : ℕ). get_or kinds p none) (eqb-true filled place same) ∙ at) are.0
-        | false ↦ λ differ. value_at_kind place of places values at plain are.1
+        | false ↦ λ differ. value_at_kind place of places values at are.1
       ] refl
 
   -- and so are those of all columns from a place on
-  arranged_kinds : (place : ℕ) (rest : List Kind) (places : List ℕ) (values : List Value) → ((p : ℕ) → get_or kinds (place + p) none ≡ get_or rest p none) → All IsPlain rest → AreAt places values
+  arranged_kinds : (place : ℕ) (rest : List Kind) (places : List ℕ) (values : List Value) → ((p : ℕ) → get_or kinds (place + p) none ≡ get_or rest p none) → AreAt places values
       → AreOf rest (arranged place rest places values)
-  arranged_kinds place [] places values same plain are = tt
-  arranged_kinds place (first ∷ rest) places values same plain are =
+  arranged_kinds place [] places values same are = tt
+  arranged_kinds place (first ∷ rest) places values same are =
       let here : get_or kinds place none ≡ first = ap (λ (p : ℕ). get_or kinds p none) (omega arith) ∙ same 0 in (
-        value_at_kind place first places values here (All-head IsPlain first rest plain) are,
-        arranged_kinds (place + 1) rest places values (λ p. ap (λ (n : ℕ). get_or kinds n none) (omega arith) ∙ same (suc p)) (All-tail IsPlain first rest plain) are,
+        value_at_kind place first places values here are,
+        arranged_kinds (place + 1) rest places values (λ p. ap (λ (n : ℕ). get_or kinds n none) (omega arith) ∙ same (suc p)) are,
       )
 
 -- a row that literals write is of the kinds
-row_kinds : (kinds : List Kind) (places : List ℕ) (literals : List Literal) (row : List Value) → All IsPlain kinds → AreWithin (length kinds) places → row_for kinds places literals ≡ Ok row → AreOf kinds row
-row_kinds kinds places literals row plain within is =
+row_kinds : (kinds : List Kind) (places : List ℕ) (literals : List Literal) (row : List Value) → AreWithin (length kinds) places → row_for kinds places literals ≡ Ok row → AreOf kinds row
+row_kinds kinds places literals row within is =
     let none : Kind = kind.Plain scalar.Bool in
     let width = refuse_if-Ok (not (nat_eq (length literals) (length places))) WrongWidth _ row is in
     let values = and_then-Ok (values_for (kinds_at kinds places) literals) (λ values. Ok (arranged 0 kinds places values)) row width.1 in
     subst (AreOf kinds) (ok_same (arranged 0 kinds places values.0) row values.2)
-    (arranged_kinds kinds none 0 kinds places values.0 (λ p. ap (λ (n : ℕ). get_or kinds n none) (omega arith)) plain (values_at kinds none places literals values.0 within values.1))
+    (arranged_kinds kinds none 0 kinds places values.0 (λ p. ap (λ (n : ℕ). get_or kinds n none) (omega arith)) (values_at kinds none places literals values.0 within values.1))
 
 -- and so are rows, of which there are as many as lists of literals
-pub rows_kinds : (kinds : List Kind) (places : List ℕ) (lists : List (List Literal)) (rows : List (List Value)) → All IsPlain kinds → AreWithin (length kinds) places → rows_for kinds places lists ≡ Ok rows
+pub rows_kinds : (kinds : List Kind) (places : List ℕ) (lists : List (List Literal)) (rows : List (List Value)) → AreWithin (length kinds) places → rows_for kinds places lists ≡ Ok rows
     → AllAreOf kinds rows × (length rows ≡ length lists)
-rows_kinds kinds places [] rows plain within is = subst (λ (l : List (List Value)). AllAreOf kinds l × (length l ≡ 0)) (ok_same [] rows is) (tt, refl)
-rows_kinds kinds places (literals ∷ lists) rows plain within is =
+rows_kinds kinds places [] rows within is = subst (λ (l : List (List Value)). AllAreOf kinds l × (length l ≡ 0)) (ok_same [] rows is) (tt, refl)
+rows_kinds kinds places (literals ∷ lists) rows within is =
     let first = and_then-Ok (row_for kinds places literals) (λ row. and_then (rows_for kinds places lists) (λ rest. Ok (row ∷ rest))) rows is in
     let later = and_then-Ok (rows_for kinds places lists) (λ rest. Ok (first.0 ∷ rest)) rows first.2 in
-    let rest = rows_kinds kinds places lists later.0 plain within later.1 in
+    let rest = rows_kinds kinds places lists later.0 within later.1 in
     subst (λ (l : List (List Value)). AllAreOf kinds l × (length l ≡ length (literals ∷ lists))) (ok_same (first.0 ∷ later.0) rows later.2)
-    ((row_kinds kinds places literals first.0 plain within first.1, rest.0), omega (arith, rest.1))
+    ((row_kinds kinds places literals first.0 within first.1, rest.0), omega (arith, rest.1))

@@ -37,14 +37,9 @@ catalog_of schema = record { tables = tables_of schema; views = [] }
 abbrev pub with_definition : Catalog → Definition → Catalog
 with_definition catalog definition = record catalog { tables = catalog.tables ++ tables_in definition }
 
--- the kind of a column is written by one name
-abbrev pub is_plain : KindWord → Bool
-is_plain (kind.Plain name) = true
-is_plain (kind.Agg function arg) = false
-
--- a table without states and merges of states
+-- a table whose rows are not merged
 unfoldable pub is_built_table : CreateTable → Bool
-is_built_table made = not (is_aggregating made.engine) && list_all (λ column. is_plain column.kind) made.columns
+is_built_table made = not (is_aggregating made.engine)
 
 -- a CREATE statement that is built
 abbrev pub is_built_create : Statement → Bool

@@ -71,11 +71,6 @@ unfoldable pub kind_of : KindWord → Result Kind Refusal
 kind_of (kind_word.Plain name) = and_then (or_refuse TypeMismatch (scalar_of name)) (λ plain. Ok (kind.Plain plain))
 kind_of (kind_word.Agg function arg) = and_then (or_refuse UnknownFunction (function_of function)) (λ agg. state_of agg arg)
 
--- the words write a kind of plain values
-abbrev pub IsPlainWord : KindWord → Type 0
-IsPlainWord (kind_word.Plain name) = Unit {0}
-IsPlainWord (kind_word.Agg function arg) = ⊥
-
 -- the names of columns
 abbrev pub column_names : List ColumnDef → List (List ℕ)
 column_names columns = map (λ column. column.name) columns

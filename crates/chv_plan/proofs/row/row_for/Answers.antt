@@ -1,10 +1,14 @@
 use Rattle.std.proofs.Common.{arith}
-use Rattle.chv_query.proofs.LiteralRowLemmas.{defaults_are}
+use Rattle.chv_block.proofs.DefaultLemmas.{defaults_are}
+use Rattle.chv_query.proofs.LiteralRowLemmas.{defaults_small}
 use Rattle.chv_plan.proofs.RowLemmas.{row_for-written}
 use Rattle.chv_plan.proofs.row.row_for.Goals as goal
 
 pub written_row-requires-clause-kinds : goal.written_row-requires-clause-kinds
-written_row-requires-clause-kinds c = rw c.in_ok-row.ensures (defaults_are c.args.kinds.now c.requires.plain)
+written_row-requires-clause-kinds c = rw c.in_ok-row.ensures (defaults_are c.args.kinds.now)
+
+pub written_row-requires-clause-small : goal.written_row-requires-clause-small
+written_row-requires-clause-small c = rw c.in_ok-row.ensures (defaults_small c.args.kinds.now)
 
 pub returns-clause-row : goal.returns-clause-row
 returns-clause-row c =

@@ -1,5 +1,7 @@
 use Rattle.std.proofs.Common.{◌<◌, ◌+◌, length, get_or, drop, arith, refl, sym, ◌∙◌}
+use Rattle.std.proofs.lemmas.List.Elements.{All-set}
 use Rattle.std.proofs.lemmas.Result.{err_from_is_err_and}
+use Rattle.chv_block.specs.Spellings.{IsSmall}
 use Rattle.chv_types.specs.declared.kind.Kind.TheVariants.{Plain}
 use Rattle.chv_types.specs.declared.kind.Scalar.TheVariants.{UInt8}
 use Rattle.chv_plan.specs.Places.{ArePlaces}
@@ -31,5 +33,6 @@ loop-i-preserved c =
           (omega arith) c.loop-i-test.true c.index-literals-i.is first.0 c.in_ok-row.ensures.value (omega arith))
           ∙ c.loop-i.invariant.left;
       kinds = AreOf-set c.args.kinds.now c.loop-i.row.items (get_or c.args.places.now c.loop-i.i 0) (Plain UInt8) c.in_ok-row.field-0 c.loop-i.invariant.kinds first.0 c.in_ok-row.ensures.kind;
+      small = All-set IsSmall c.loop-i.row.items (get_or c.args.places.now c.loop-i.i 0) c.in_ok-row.field-0 c.in_ok-row.ensures.small c.loop-i.invariant.small;
       places = first.1;
     }
