@@ -31,3 +31,14 @@ pub fn law_state_in()
 pub fn law_state_in_fits()
     ensures { (agg : AggName) (arg : Scalar) (bytes : List ℕ) → FitsState agg arg (state_in agg arg bytes) }
 {}
+
+/// States in bytes are joined in any order; which of three are joined first does not matter where the joint states fit, which all do
+/// but sets of 2^64 values and more.
+pub fn law_join_bytes()
+    ensures joined { (agg : AggName) (arg : Scalar) (a b : List ℕ) → FitsState agg arg (join (state_in agg arg a) (state_in agg arg b))
+        → state_in agg arg (join_bytes agg arg a b) ≡ join (state_in agg arg a) (state_in agg arg b) }
+    ensures commutative { (agg : AggName) (arg : Scalar) (a b : List ℕ) → join_bytes agg arg a b ≡ join_bytes agg arg b a }
+    ensures associative { (agg : AggName) (arg : Scalar) (a b c : List ℕ) → FitsState agg arg (join (state_in agg arg a) (state_in agg arg b))
+        → FitsState agg arg (join (state_in agg arg b) (state_in agg arg c))
+        → join_bytes agg arg (join_bytes agg arg a b) c ≡ join_bytes agg arg a (join_bytes agg arg b c) }
+{}
