@@ -152,19 +152,19 @@ uniq_in-Some arg bytes read h =
     )
 
 -- a state in front of bytes reads back, whatever follows it
-pub state_front-append : (agg : AggName) (arg : Scalar) (state : AnyAgg) (rest : List ℕ) → FitsState agg arg state → state_front agg arg (state_bytes arg state ++ rest) ≡ Some (state, rest)
+pub state_front-spelled : (agg : AggName) (arg : Scalar) (state : AnyAgg) (rest : List ℕ) → FitsState agg arg state → state_front agg arg (state_bytes arg state ++ rest) ≡ Some (state, rest)
 unfolding state_front state_bytes
-state_front-append agg.Count arg (Count n) rest h = numbered-append Count n rest h
-state_front-append agg.Sum arg (SumU n) rest h =
+state_front-spelled agg.Count arg (Count n) rest h = numbered-append Count n rest h
+state_front-spelled agg.Sum arg (SumU n) rest h =
     ap (λ (signed : Bool). sum_in signed (to_le_bytes w64 n ++ rest)) h.0 ∙ numbered-append SumU n rest h.1
-state_front-append agg.Sum arg (SumI n) rest h =
+state_front-spelled agg.Sum arg (SumI n) rest h =
     ap (λ (signed : Bool). sum_in signed (int_bytes I64 n ++ rest)) h.0 ∙ sum_in-append n rest (record { least = h.1; greatest = h.2 })
-state_front-append agg.Min arg (Least found) rest h =
+state_front-spelled agg.Min arg (Least found) rest h =
     ap (option_map (λ (read : Option Value × List ℕ). (Least read.0, read.1))) (found_in-append arg found rest h)
-state_front-append agg.Max arg (Greatest found) rest h =
+state_front-spelled agg.Max arg (Greatest found) rest h =
     ap (option_map (λ (read : Option Value × List ℕ). (Greatest read.0, read.1))) (found_in-append arg found rest h)
-state_front-append agg.UniqExact arg (Uniq values) rest h = uniq_in-append arg values rest h
-state_front-append agg arg state rest h = absurd h
+state_front-spelled agg.UniqExact arg (Uniq values) rest h = uniq_in-append arg values rest h
+state_front-spelled agg arg state rest h = absurd h
 
 -- what is read is a state of the function over values of the kind, and its bytes are those that were read
 pub state_front-Some : (agg : AggName) (arg : Scalar) (bytes : List ℕ) (read : AnyAgg × List ℕ) → state_front agg arg bytes ≡ Some read → IsStateFront agg arg bytes read
@@ -181,10 +181,15 @@ state_front-Some agg.Max arg bytes read h =
     subst (IsStateFront agg.Max arg bytes) e.2 (found_in-Some arg bytes e.0 e.1)
 state_front-Some agg.UniqExact arg bytes read h = uniq_in-Some arg bytes read h
 
+-- the same of a state and what is behind it
+pub state_front-sound : (agg : AggName) (arg : Scalar) (bytes : List ℕ) (state : AnyAgg) (rest : List ℕ) → state_front agg arg bytes ≡ Some (state, rest)
+    → FitsState agg arg state × (bytes ≡ state_bytes arg state ++ rest)
+state_front-sound agg arg bytes state rest is = state_front-Some agg arg bytes (state, rest) is
+
 -- bytes begin with one state of a function over values of a kind at most
 pub one_state_in_front : (agg : AggName) (arg : Scalar) (a b : AnyAgg) (x y : List ℕ) → FitsState agg arg a → FitsState agg arg b → state_bytes arg a ++ x ≡ state_bytes arg b ++ y → (a ≡ b) × (x ≡ y)
 one_state_in_front agg arg a b x y h k same =
-    some_pair_parts a b x y (sym (state_front-append agg arg a x h) ∙ ap (state_front agg arg) same ∙ state_front-append agg arg b y k)
+    some_pair_parts a b x y (sym (state_front-spelled agg arg a x h) ∙ ap (state_front agg arg) same ∙ state_front-spelled agg arg b y k)
 
 -- the state of no values is one of the function over values of the kind
 fits_sum : (arg : Scalar) (signed : Bool) → is_signed arg ≡ signed → FitsState agg.Sum arg (if signed then SumI (pos 0) else SumU 0)
@@ -202,7 +207,7 @@ unit_of-fits agg.UniqExact arg = (All-nil (IsOfScalar arg), tt, omega arith)
 pub state_in-spelled : (agg : AggName) (arg : Scalar) (state : AnyAgg) → FitsState agg arg state → state_in agg arg (state_bytes arg state) ≡ state
 state_in-spelled agg arg state h =
     ap (λ (l : List ℕ). whole_state (unit_of agg arg) (state_front agg arg l)) (sym (append-nil (state_bytes arg state)))
-    ∙ ap (whole_state (unit_of agg arg)) (state_front-append agg arg state [] h)
+    ∙ ap (whole_state (unit_of agg arg)) (state_front-spelled agg arg state [] h)
 
 whole_fits : (agg : AggName) (arg : Scalar) (front : Option (AnyAgg × List ℕ)) → ((read : AnyAgg × List ℕ) → front ≡ Some read → FitsState agg arg read.0)
     → FitsState agg arg (whole_state (unit_of agg arg) front)
