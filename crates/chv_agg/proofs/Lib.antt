@@ -1,4 +1,6 @@
 pub mod FrontLemmas
+pub mod JoinFits
+pub mod JoinLemmas
 pub mod PlainLemmas
 pub mod ReadingLemmas
 pub mod SetLemmas

@@ -20,7 +20,7 @@ use Rattle.chv_agg.specs.Plain.{scalar_spelling, values_spelling}
 use Rattle.chv_agg.specs.StateBytes.{state_bytes}
 use Rattle.chv_agg.specs.States.{FitsState}
 use Rattle.chv_agg.specs.declared.any_agg.AnyAgg.{AnyAgg}
-use Rattle.chv_agg.specs.declared.any_agg.AnyAgg.TheVariants.{Count, SumU, SumI, Least, Greatest, Uniq}
+use Rattle.chv_agg.specs.declared.any_agg.AnyAgg.TheVariants.{Count, SumU, SumI, Uniq}
 
 -- where fewer than 8 bytes are left, nothing of 8 bytes and more stands
 cut_short : (spelling rest bytes : List ℕ) (at : ℕ) → 8 ≤ length spelling → length bytes < at + 8 → drop at bytes ≡ spelling ++ rest → ⊥
@@ -35,30 +35,19 @@ length-number n = refl
 wide_count : (arg : Scalar) (state : AnyAgg) → FitsState agg.Count arg state → 8 ≤ length (state_bytes arg state)
 unfolding state_bytes
 wide_count arg (Count n) h = omega (arith, length-number n)
-wide_count arg (SumU n) h = absurd h
-wide_count arg (SumI n) h = absurd h
-wide_count arg (Least found) h = absurd h
-wide_count arg (Greatest found) h = absurd h
-wide_count arg (Uniq values) h = absurd h
+wide_count arg state h = absurd h
 
 wide_sum : (arg : Scalar) (state : AnyAgg) → FitsState agg.Sum arg state → 8 ≤ length (state_bytes arg state)
 unfolding state_bytes
-wide_sum arg (Count n) h = absurd h
 wide_sum arg (SumU n) h = omega (arith, length-number n)
 wide_sum arg (SumI n) h = let long : length (int_bytes I64 n) ≡ 8 = refl in omega (arith, long)
-wide_sum arg (Least found) h = absurd h
-wide_sum arg (Greatest found) h = absurd h
-wide_sum arg (Uniq values) h = absurd h
+wide_sum arg state h = absurd h
 
 wide_uniq : (arg : Scalar) (state : AnyAgg) → FitsState agg.UniqExact arg state → 8 ≤ length (state_bytes arg state)
 unfolding state_bytes
-wide_uniq arg (Count n) h = absurd h
-wide_uniq arg (SumU n) h = absurd h
-wide_uniq arg (SumI n) h = absurd h
-wide_uniq arg (Least found) h = absurd h
-wide_uniq arg (Greatest found) h = absurd h
 wide_uniq arg (Uniq values) h =
     omega (arith, length-number (length values), length-append (to_le_bytes w64 (length values)) (values_spelling arg values))
+wide_uniq arg state h = absurd h
 
 -- where fewer than 8 bytes are left, no count stands
 pub none_count : (bytes : List ℕ) (at : ℕ) → length bytes < at + 8 → (arg : Scalar) (state : AnyAgg) (rest : List ℕ) → FitsState agg.Count arg state
@@ -120,14 +109,10 @@ pub none_set : (arg : Scalar) (bytes : List ℕ) (at start count : ℕ) → Stan
     → ((values : List Value) (rest : List ℕ) → All (IsOfScalar arg) values → Rises value_cmp values → length values ≡ count → drop start bytes ≡ values_spelling arg values ++ rest → ⊥)
     → (state : AnyAgg) (rest : List ℕ) → FitsState agg.UniqExact arg state → drop at bytes ≡ state_bytes arg state ++ rest → ⊥
 unfolding state_bytes
-none_set arg bytes at start count stands small none (Count n) rest h same = absurd h
-none_set arg bytes at start count stands small none (SumU n) rest h same = absurd h
-none_set arg bytes at start count stands small none (SumI n) rest h same = absurd h
-none_set arg bytes at start count stands small none (Least found) rest h same = absurd h
-none_set arg bytes at start count stands small none (Greatest found) rest h same = absurd h
 none_set arg bytes at start count stands small none (Uniq values) rest h same =
     let e = set_behind arg bytes rest at start count values stands small h.2 same in
     none values rest h.0 h.1 e.0 e.1
+none_set arg bytes at start count stands small none state rest h same = absurd h
 
 -- where fewer bytes are left than values, there are not so many
 pub too_many : (arg : Scalar) (bytes : List ℕ) (start count : ℕ) → length bytes - start < count

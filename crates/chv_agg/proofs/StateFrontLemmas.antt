@@ -20,11 +20,12 @@ use Rattle.chv_types.specs.declared.aggregate.AggName.TheVariants as agg
 use Rattle.chv_types.specs.declared.kind.Scalar.{Scalar}
 use Rattle.chv_types.specs.declared.value.Value.{Value}
 use Rattle.chv_agg.specs.Plain.{values_spelling}
-use Rattle.chv_agg.specs.StateBytes.{found_bytes, found_in, rises, scalar_in, state_bytes, state_front, state_in, sum_in, uniq_in, values_in, whole_state, word_of}
-use Rattle.chv_agg.specs.States.{FitsFound, FitsState, is_signed, unit_of}
+use Rattle.chv_agg.specs.StateBytes.{found_bytes, found_in, rises, scalar_in, state_bytes, state_front, join_bytes, state_in, sum_in, uniq_in, values_in, whole_state, word_of}
+use Rattle.chv_agg.specs.States.{FitsFound, FitsState, is_signed, join, unit_of}
 use Rattle.chv_agg.specs.declared.any_agg.AnyAgg.{AnyAgg}
 use Rattle.chv_agg.specs.declared.any_agg.AnyAgg.TheVariants.{Count, SumU, SumI, Least, Greatest, Uniq}
 use Rattle.chv_agg.proofs.FrontLemmas.{and_parts, if_Some, integer_again, map_Some, number_again, scalar_in-append, scalar_in-Some, then_Some, values_in-append, values_in-Some, word_of-append, word_of-Some}
+use Rattle.chv_agg.proofs.JoinLemmas.{join_assoc, join_comm}
 use Rattle.chv_agg.proofs.SetLemmas.{is_lt-Less, Rises-front}
 
 -- what is read is spelled in front of the bytes, and is a state of the function over values of the kind
@@ -151,42 +152,19 @@ uniq_in-Some arg bytes read h =
     )
 
 -- a state in front of bytes reads back, whatever follows it
-pub state_front-append : (agg : AggName) (arg : Scalar) (state : AnyAgg) (rest : List ℕ) → FitsState agg arg state → state_front agg arg (state_bytes arg state ++ rest) ≡ Some (state, rest)
+pub state_front-spelled : (agg : AggName) (arg : Scalar) (state : AnyAgg) (rest : List ℕ) → FitsState agg arg state → state_front agg arg (state_bytes arg state ++ rest) ≡ Some (state, rest)
 unfolding state_front state_bytes
-state_front-append agg.Count arg (Count n) rest h = numbered-append Count n rest h
-state_front-append agg.Count arg (SumU n) rest h = absurd h
-state_front-append agg.Count arg (SumI n) rest h = absurd h
-state_front-append agg.Count arg (Least found) rest h = absurd h
-state_front-append agg.Count arg (Greatest found) rest h = absurd h
-state_front-append agg.Count arg (Uniq values) rest h = absurd h
-state_front-append agg.Sum arg (Count n) rest h = absurd h
-state_front-append agg.Sum arg (SumU n) rest h =
+state_front-spelled agg.Count arg (Count n) rest h = numbered-append Count n rest h
+state_front-spelled agg.Sum arg (SumU n) rest h =
     ap (λ (signed : Bool). sum_in signed (to_le_bytes w64 n ++ rest)) h.0 ∙ numbered-append SumU n rest h.1
-state_front-append agg.Sum arg (SumI n) rest h =
+state_front-spelled agg.Sum arg (SumI n) rest h =
     ap (λ (signed : Bool). sum_in signed (int_bytes I64 n ++ rest)) h.0 ∙ sum_in-append n rest (record { least = h.1; greatest = h.2 })
-state_front-append agg.Sum arg (Least found) rest h = absurd h
-state_front-append agg.Sum arg (Greatest found) rest h = absurd h
-state_front-append agg.Sum arg (Uniq values) rest h = absurd h
-state_front-append agg.Min arg (Count n) rest h = absurd h
-state_front-append agg.Min arg (SumU n) rest h = absurd h
-state_front-append agg.Min arg (SumI n) rest h = absurd h
-state_front-append agg.Min arg (Least found) rest h =
+state_front-spelled agg.Min arg (Least found) rest h =
     ap (option_map (λ (read : Option Value × List ℕ). (Least read.0, read.1))) (found_in-append arg found rest h)
-state_front-append agg.Min arg (Greatest found) rest h = absurd h
-state_front-append agg.Min arg (Uniq values) rest h = absurd h
-state_front-append agg.Max arg (Count n) rest h = absurd h
-state_front-append agg.Max arg (SumU n) rest h = absurd h
-state_front-append agg.Max arg (SumI n) rest h = absurd h
-state_front-append agg.Max arg (Least found) rest h = absurd h
-state_front-append agg.Max arg (Greatest found) rest h =
+state_front-spelled agg.Max arg (Greatest found) rest h =
     ap (option_map (λ (read : Option Value × List ℕ). (Greatest read.0, read.1))) (found_in-append arg found rest h)
-state_front-append agg.Max arg (Uniq values) rest h = absurd h
-state_front-append agg.UniqExact arg (Count n) rest h = absurd h
-state_front-append agg.UniqExact arg (SumU n) rest h = absurd h
-state_front-append agg.UniqExact arg (SumI n) rest h = absurd h
-state_front-append agg.UniqExact arg (Least found) rest h = absurd h
-state_front-append agg.UniqExact arg (Greatest found) rest h = absurd h
-state_front-append agg.UniqExact arg (Uniq values) rest h = uniq_in-append arg values rest h
+state_front-spelled agg.UniqExact arg (Uniq values) rest h = uniq_in-append arg values rest h
+state_front-spelled agg arg state rest h = absurd h
 
 -- what is read is a state of the function over values of the kind, and its bytes are those that were read
 pub state_front-Some : (agg : AggName) (arg : Scalar) (bytes : List ℕ) (read : AnyAgg × List ℕ) → state_front agg arg bytes ≡ Some read → IsStateFront agg arg bytes read
@@ -203,10 +181,15 @@ state_front-Some agg.Max arg bytes read h =
     subst (IsStateFront agg.Max arg bytes) e.2 (found_in-Some arg bytes e.0 e.1)
 state_front-Some agg.UniqExact arg bytes read h = uniq_in-Some arg bytes read h
 
+-- the same of a state and what is behind it
+pub state_front-sound : (agg : AggName) (arg : Scalar) (bytes : List ℕ) (state : AnyAgg) (rest : List ℕ) → state_front agg arg bytes ≡ Some (state, rest)
+    → FitsState agg arg state × (bytes ≡ state_bytes arg state ++ rest)
+state_front-sound agg arg bytes state rest is = state_front-Some agg arg bytes (state, rest) is
+
 -- bytes begin with one state of a function over values of a kind at most
 pub one_state_in_front : (agg : AggName) (arg : Scalar) (a b : AnyAgg) (x y : List ℕ) → FitsState agg arg a → FitsState agg arg b → state_bytes arg a ++ x ≡ state_bytes arg b ++ y → (a ≡ b) × (x ≡ y)
 one_state_in_front agg arg a b x y h k same =
-    some_pair_parts a b x y (sym (state_front-append agg arg a x h) ∙ ap (state_front agg arg) same ∙ state_front-append agg arg b y k)
+    some_pair_parts a b x y (sym (state_front-spelled agg arg a x h) ∙ ap (state_front agg arg) same ∙ state_front-spelled agg arg b y k)
 
 -- the state of no values is one of the function over values of the kind
 fits_sum : (arg : Scalar) (signed : Bool) → is_signed arg ≡ signed → FitsState agg.Sum arg (if signed then SumI (pos 0) else SumU 0)
@@ -224,7 +207,7 @@ unit_of-fits agg.UniqExact arg = (All-nil (IsOfScalar arg), tt, omega arith)
 pub state_in-spelled : (agg : AggName) (arg : Scalar) (state : AnyAgg) → FitsState agg arg state → state_in agg arg (state_bytes arg state) ≡ state
 state_in-spelled agg arg state h =
     ap (λ (l : List ℕ). whole_state (unit_of agg arg) (state_front agg arg l)) (sym (append-nil (state_bytes arg state)))
-    ∙ ap (whole_state (unit_of agg arg)) (state_front-append agg arg state [] h)
+    ∙ ap (whole_state (unit_of agg arg)) (state_front-spelled agg arg state [] h)
 
 whole_fits : (agg : AggName) (arg : Scalar) (front : Option (AnyAgg × List ℕ)) → ((read : AnyAgg × List ℕ) → front ≡ Some read → FitsState agg arg read.0)
     → FitsState agg arg (whole_state (unit_of agg arg) front)
@@ -255,3 +238,19 @@ state_in-longer agg arg bytes rest state fits same longer =
     let e = one_state_in_front agg arg state other rest [] fits h (sym same ∙ is ∙ sym (append-nil (state_bytes arg other))) in
     let none : length rest ≡ 0 = ap length e.1 in
     absurd (omega (arith, none, longer)))
+
+-- states in bytes are joined as what they stand for
+pub join_bytes-joined : (agg : AggName) (arg : Scalar) (a b : List ℕ) → FitsState agg arg (join (state_in agg arg a) (state_in agg arg b))
+    → state_in agg arg (join_bytes agg arg a b) ≡ join (state_in agg arg a) (state_in agg arg b)
+join_bytes-joined agg arg a b fits = state_in-spelled agg arg (join (state_in agg arg a) (state_in agg arg b)) fits
+
+pub join_bytes-comm : (agg : AggName) (arg : Scalar) (a b : List ℕ) → join_bytes agg arg a b ≡ join_bytes agg arg b a
+join_bytes-comm agg arg a b = ap (state_bytes arg) (join_comm (state_in agg arg a) (state_in agg arg b))
+
+pub join_bytes-assoc : (agg : AggName) (arg : Scalar) (a b c : List ℕ) → FitsState agg arg (join (state_in agg arg a) (state_in agg arg b)) → FitsState agg arg (join (state_in agg arg b) (state_in agg arg c))
+    → join_bytes agg arg (join_bytes agg arg a b) c ≡ join_bytes agg arg a (join_bytes agg arg b c)
+join_bytes-assoc agg arg a b c h k =
+    ap (state_bytes arg)
+    (ap (λ (s : AnyAgg). join s (state_in agg arg c)) (join_bytes-joined agg arg a b h)
+    ∙ join_assoc (state_in agg arg a) (state_in agg arg b) (state_in agg arg c)
+    ∙ ap (join (state_in agg arg a)) (sym (join_bytes-joined agg arg b c k)))

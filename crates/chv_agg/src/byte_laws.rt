@@ -1,5 +1,5 @@
 // What holds of all states in bytes, as laws on the definitions.
-ghost use Rattle.std.specs.Prelude.{◌≡◌, ◌++◌, ℕ, List, Some};
+ghost use Rattle.std.specs.Prelude.{◌≡◌, ◌<◌, ◌+◌, ◌^◌, ◌++◌, ℕ, List, Some, length};
 ghost use Rattle.chv_agg.specs.StateBytes.{join_bytes, state_bytes, state_front, state_in};
 ghost use Rattle.chv_agg.specs.States.{FitsState, join, unit_of};
 ghost use Rattle.chv_agg.specs.declared.any_agg.AnyAgg.{AnyAgg as SomeState};
@@ -30,4 +30,16 @@ pub fn law_state_in()
 /// Bytes stand for a state of the function over values of the kind, whatever they are.
 pub fn law_state_in_fits()
     ensures { (agg : AggName) (arg : Scalar) (bytes : List ℕ) → FitsState agg arg (state_in agg arg bytes) }
+{}
+
+/// States in bytes are joined in any order; which of three are joined first does not matter where the joint states fit, as all do
+/// that fewer than 2^64 bytes spell.
+pub fn law_join_bytes()
+    ensures fits { (agg : AggName) (arg : Scalar) (a b : List ℕ) → length a + length b < 2 ^ 64 → FitsState agg arg (join (state_in agg arg a) (state_in agg arg b)) }
+    ensures joined { (agg : AggName) (arg : Scalar) (a b : List ℕ) → FitsState agg arg (join (state_in agg arg a) (state_in agg arg b))
+        → state_in agg arg (join_bytes agg arg a b) ≡ join (state_in agg arg a) (state_in agg arg b) }
+    ensures commutative { (agg : AggName) (arg : Scalar) (a b : List ℕ) → join_bytes agg arg a b ≡ join_bytes agg arg b a }
+    ensures associative { (agg : AggName) (arg : Scalar) (a b c : List ℕ) → FitsState agg arg (join (state_in agg arg a) (state_in agg arg b))
+        → FitsState agg arg (join (state_in agg arg b) (state_in agg arg c))
+        → join_bytes agg arg (join_bytes agg arg a b) c ≡ join_bytes agg arg a (join_bytes agg arg b c) }
 {}

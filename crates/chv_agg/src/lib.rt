@@ -10,7 +10,9 @@ mod states;
 mod tally;
 
 pub use any_agg::{AnyAgg, ValueSet};
-pub use byte_laws::{law_state_front, law_state_in, law_state_in_fits, law_state_reads_back};
+pub use byte_laws::{
+    law_join_bytes, law_state_front, law_state_in, law_state_in_fits, law_state_reads_back,
+};
 pub use plain::{plain_size, read_scalar, scalar_code, spell_scalar};
 pub use reading::any_read;
 pub use spelling::any_spell;
