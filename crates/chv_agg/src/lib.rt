@@ -2,11 +2,13 @@
 #![tactic(auto)]
 
 mod any_agg;
+mod pair_laws;
 mod plain;
 mod states;
 mod tally;
 
 pub use any_agg::{AnyAgg, ValueSet};
+pub use pair_laws::law_keys;
 pub use plain::{plain_size, read_scalar, scalar_code, spell_scalar};
 pub use states::{any_add, any_finish, any_merge, any_read, any_spell, any_unit};
 pub use tally::Tally;

@@ -1,0 +1,299 @@
+-- Pairs of a key and a value, those of one key as one.
+use Rattle.std.proofs.Common.{◌≡◌, ℕ, zero, suc, ◌<◌, Bool, true, false, cond, if◌then◌else◌, List, [], ◌∷◌, ◌++◌, map, length, get_or, set, swap, Option, None, Some, Less, Equal, Greater, refl, sym, ap, ap₂, subst, ◌∙◌, arith, filter, flat_map, option_map}
+use Rattle.std.proofs.lemmas.Cmp.{tied_itself}
+use Rattle.std.proofs.lemmas.List.Edits.{swap_is}
+use Rattle.std.proofs.lemmas.List.Elements.{All-nil, All-cons, All-weaker, All-filter, All-head, All-tail}
+use Rattle.std.proofs.lemmas.List.Sorted.{IsPermutation-keeps}
+use Rattle.std.specs.Cmp.{IsTotalOrder, Equal-is}
+use Rattle.std.specs.FinMap.{IsAntisymmetric}
+use Rattle.std.specs.List.{All}
+use Rattle.std.specs.List.Sorted.{IsPermutation}
+use Rattle.std.specs.Ordering.{is_eq, ordering_reverse}
+use Rattle.std.specs.declared.cmp.Ordering.{Ordering}
+use Rattle.chv_agg.specs.Pairs.{IsAssociative, IsCommutative, IsThrough, both, collapse, joint, join_each, kept, keys_of, put_pair, recast, value_under, values_under}
+use Rattle.chv_types.proofs.MemberLemmas.{members-Rises}
+use Rattle.chv_types.specs.Members.{by_order, put_member, members, Rises}
+
+-- what is there where a test passes
+abbrev where_so : {V : Type 0} → Bool → V → Option V
+where_so so v = if so then Some v else None
+
+module _ {V : Type 0} (join : V → V → V) (assoc : IsAssociative join) where
+  pub both-IsAssociative : IsAssociative (both join)
+  both-IsAssociative None b c = refl
+  both-IsAssociative (Some a) None c = refl
+  both-IsAssociative (Some a) (Some b) None = refl
+  both-IsAssociative (Some a) (Some b) (Some c) = ap Some (assoc a b c)
+
+  pub join_each-IsAssociative : IsAssociative (join_each join)
+  join_each-IsAssociative [] bs cs = refl
+  join_each-IsAssociative (a ∷ rest) [] cs = refl
+  join_each-IsAssociative (a ∷ rest) (b ∷ bs) [] = refl
+  join_each-IsAssociative (a ∷ rest) (b ∷ bs) (c ∷ cs) =
+      ap₂ (λ (v : V) (vs : List V). v ∷ vs) (assoc a b c) (join_each-IsAssociative rest bs cs)
+
+  -- a joined value stands for its two
+  joined_or_two : (so : Bool) (u v : V) (t : Option V) → both join (where_so so (join u v)) t ≡ both join (where_so so u) (both join (where_so so v) t)
+  joined_or_two false u v t = refl
+  joined_or_two true u v None = refl
+  joined_or_two true u v (Some w) = ap Some (assoc u v w)
+
+module _ {V : Type 0} (join : V → V → V) (comm : IsCommutative join) where
+  pub both-IsCommutative : IsCommutative (both join)
+  both-IsCommutative None None = refl
+  both-IsCommutative None (Some b) = refl
+  both-IsCommutative (Some a) None = refl
+  both-IsCommutative (Some a) (Some b) = ap Some (comm a b)
+
+  pub join_each-IsCommutative : IsCommutative (join_each join)
+  join_each-IsCommutative [] [] = refl
+  join_each-IsCommutative [] (b ∷ bs) = refl
+  join_each-IsCommutative (a ∷ rest) [] = refl
+  join_each-IsCommutative (a ∷ rest) (b ∷ bs) = ap₂ (λ (v : V) (vs : List V). v ∷ vs) (comm a b) (join_each-IsCommutative rest bs)
+
+module _ {V : Type 0} (join : V → V → V) (assoc : IsAssociative join) (comm : IsCommutative join) where
+  -- two in front of a third go in either order
+  both-exchanged : (a b c : Option V) → both join a (both join b c) ≡ both join b (both join a c)
+  both-exchanged a b c =
+      sym (both-IsAssociative join assoc a b c) ∙ ap (λ (t : Option V). both join t c) (both-IsCommutative join comm a b) ∙ both-IsAssociative join assoc b a c
+
+-- of two of which one is not there, each may be in front
+exchanged_apart : {V : Type 0} (join : V → V → V) (a b : Bool) (u v : V) (t : Option V) → (a ≡ true → b ≡ true → ⊥)
+    → both join (where_so a u) (both join (where_so b v) t) ≡ both join (where_so b v) (both join (where_so a u) t)
+exchanged_apart join false b u v t h = refl
+exchanged_apart join true false u v t h = refl
+exchanged_apart join true true u v t h = absurd (h refl refl)
+
+module _ {K V : Type 0} (cmp : K → K → Ordering) (join : V → V → V) where
+  keys_of-put_pair : (p : K × V) (ps : List (K × V)) → keys_of (put_pair cmp join p ps) ≡ put_member cmp p.0 (keys_of ps)
+  keys_of-put_pair p [] = refl
+  keys_of-put_pair p (f ∷ ps) =
+      elim (cmp p.0 f.0) as (λ o. keys_of (by_order o (p ∷ (f ∷ ps)) ((f.0, join p.1 f.1) ∷ ps) (f ∷ put_pair cmp join p ps))
+      ≡ by_order o (p.0 ∷ (f.0 ∷ keys_of ps)) (f.0 ∷ keys_of ps) (f.0 ∷ put_member cmp p.0 (keys_of ps))) [
+        | Less ↦ refl
+        | Equal ↦ refl
+        | Greater ↦ ap (λ (ks : List K). f.0 ∷ ks) (keys_of-put_pair p ps)
+      ]
+
+  -- the keys of collapsed pairs are those of the pairs, each once and in order
+  pub keys_of-collapse : (ps : List (K × V)) → keys_of (collapse cmp join ps) ≡ members cmp (keys_of ps)
+  keys_of-collapse [] = refl
+  keys_of-collapse (p ∷ ps) = keys_of-put_pair p (collapse cmp join ps) ∙ ap (put_member cmp p.0) (keys_of-collapse ps)
+
+-- a function that goes through the joinings goes through collapsing
+module _ {K V W : Type 0} (cmp : K → K → Ordering) (join : V → V → V) (other : W → W → W) (f : V → W) (through : IsThrough join other f) where
+  abbrev mapped : List (K × V) → List (K × W)
+  mapped ps = recast (λ (k : K). k) f ps
+
+  mapped-put_pair : (p : K × V) (ps : List (K × V)) → mapped (put_pair cmp join p ps) ≡ put_pair cmp other (p.0, f p.1) (mapped ps)
+  mapped-put_pair p [] = refl
+  mapped-put_pair p (q ∷ ps) =
+      elim (cmp p.0 q.0) as (λ o. mapped (by_order o (p ∷ (q ∷ ps)) ((q.0, join p.1 q.1) ∷ ps) (q ∷ put_pair cmp join p ps))
+      ≡ by_order o ((p.0, f p.1) ∷ ((q.0, f q.1) ∷ mapped ps)) ((q.0, other (f p.1) (f q.1)) ∷ mapped ps) ((q.0, f q.1) ∷ put_pair cmp other (p.0, f p.1) (mapped ps))) [
+        | Less ↦ refl
+        | Equal ↦ ap (λ (w : W). (q.0, w) ∷ mapped ps) (through p.1 q.1)
+        | Greater ↦ ap (λ (qs : List (K × W)). (q.0, f q.1) ∷ qs) (mapped-put_pair p ps)
+      ]
+
+  pub recast-collapse : (ps : List (K × V)) → recast (λ (k : K). k) f (collapse cmp join ps) ≡ collapse cmp other (recast (λ (k : K). k) f ps)
+  recast-collapse [] = refl
+  recast-collapse (p ∷ ps) = mapped-put_pair p (collapse cmp join ps) ∙ ap (put_pair cmp other (p.0, f p.1)) (recast-collapse ps)
+
+-- the joint values of keys
+module _ {K V : Type 0} (cmp : K → K → Ordering) (join : V → V → V) (assoc : IsAssociative join) where
+  pub joint-append : (key : K) (ps qs : List (K × V)) → joint cmp join key (ps ++ qs) ≡ both join (joint cmp join key ps) (joint cmp join key qs)
+  joint-append key [] qs = refl
+  joint-append key (p ∷ ps) qs =
+      ap (both join (value_under cmp key p)) (joint-append key ps qs)
+      ∙ sym (both-IsAssociative join assoc (value_under cmp key p) (joint cmp join key ps) (joint cmp join key qs))
+
+  pub joint-flat_map : {A : Type 0} (key : K) (f g : A → List (K × V)) → ((a : A) → joint cmp join key (f a) ≡ joint cmp join key (g a))
+      → (parts : List A) → joint cmp join key (flat_map f parts) ≡ joint cmp join key (flat_map g parts)
+  joint-flat_map key f g same [] = refl
+  joint-flat_map key f g same (a ∷ parts) =
+      joint-append key (f a) (flat_map f parts) ∙ ap₂ (both join) (same a) (joint-flat_map key f g same parts)
+      ∙ sym (joint-append key (g a) (flat_map g parts))
+
+  module _ (comm : IsCommutative join) where
+    -- the first pair may change places with one behind it
+    joint-first : (key : K) (d p : K × V) (ps : List (K × V)) (i : ℕ) → i < length ps
+        → joint cmp join key (get_or ps i d ∷ set ps i p) ≡ joint cmp join key (p ∷ ps)
+    joint-first key d p [] i within = absurd (omega (arith, within))
+    joint-first key d p (q ∷ ps) zero within =
+        both-exchanged join assoc comm (value_under cmp key q) (value_under cmp key p) (joint cmp join key ps)
+    joint-first key d p (q ∷ ps) (suc i) within =
+        both-exchanged join assoc comm (value_under cmp key (get_or ps i d)) (value_under cmp key q) (joint cmp join key (set ps i p))
+        ∙ ap (both join (value_under cmp key q)) (joint-first key d p ps i (omega (arith, within)))
+        ∙ both-exchanged join assoc comm (value_under cmp key q) (value_under cmp key p) (joint cmp join key ps)
+
+    joint-set : (key : K) (d : K × V) (ps : List (K × V)) (i j : ℕ) → i < length ps → j < length ps
+        → joint cmp join key (set (set ps i (get_or ps j d)) j (get_or ps i d)) ≡ joint cmp join key ps
+    joint-set key d [] i j low high = absurd (omega (arith, low))
+    joint-set key d (p ∷ ps) zero zero low high = refl
+    joint-set key d (p ∷ ps) zero (suc j) low high = joint-first key d p ps j (omega (arith, high))
+    joint-set key d (p ∷ ps) (suc i) zero low high = joint-first key d p ps i (omega (arith, low))
+    joint-set key d (p ∷ ps) (suc i) (suc j) low high =
+        ap (both join (value_under cmp key p)) (joint-set key d ps i j (omega (arith, low)) (omega (arith, high)))
+
+    joint-swap : (key : K) (ps : List (K × V)) (i j : ℕ) → i < length ps → j < length ps → joint cmp join key (swap ps i j) ≡ joint cmp join key ps
+    joint-swap key [] i j low high = absurd (omega (arith, low))
+    joint-swap key (p ∷ ps) i j low high =
+        ap (joint cmp join key) (sym (swap_is (p ∷ ps) i j p low high)) ∙ joint-set key p (p ∷ ps) i j low high
+
+    pub joint-permuted : (key : K) (ps qs : List (K × V)) → IsPermutation ps qs → joint cmp join key qs ≡ joint cmp join key ps
+    joint-permuted key ps qs =
+        IsPermutation-keeps ps (λ l. joint cmp join key l ≡ joint cmp join key ps) refl (λ l i j low high h. joint-swap key l i j low high ∙ h) qs
+
+-- what an order says of keys that a test takes for the same
+module _ {K : Type 0} (cmp : K → K → Ordering) (total : IsTotalOrder cmp) (same : IsAntisymmetric cmp) where
+  same_key : (a b : K) → is_eq (cmp a b) ≡ true → a ≡ b
+  same_key a b e = same a b ((Equal-is (cmp a b)).0 e)
+
+  -- no key stands before itself
+  not_itself : (a b : K) → a ≡ b → cmp a b ≡ Less → ⊥
+  not_itself a b e below =
+      let tied : cmp a a ≡ Equal = tied_itself total a in
+      let less : cmp a a ≡ Less = subst (λ (k : K). cmp a k ≡ Less) (sym e) below in
+      let apart : Less ≡ Equal = sym less ∙ tied in
+      cc
+
+  above : (a b : K) → cmp a b ≡ Greater → cmp b a ≡ Less
+  above a b e = total.antisymm b a ∙ ap ordering_reverse e
+
+  apart_keys : (a b key : K) → cmp a b ≡ Greater → is_eq (cmp b key) ≡ true → is_eq (cmp a key) ≡ true → ⊥
+  apart_keys a b key e h k = not_itself b a (same_key b key h ∙ sym (same_key a key k)) (above a b e)
+
+  not_tied : (a b : K) → cmp a b ≡ Less → is_eq (cmp b a) ≡ false
+  not_tied a b below = ap is_eq (total.antisymm b a ∙ ap ordering_reverse below)
+
+-- pairs as one list of keys and joint values
+module _ {K V : Type 0} (cmp : K → K → Ordering) (join : V → V → V) (total : IsTotalOrder cmp) (same : IsAntisymmetric cmp) (assoc : IsAssociative join) where
+  -- a pair that is put among others counts as one in front of them
+  pub joint-put_pair : (key : K) (p : K × V) (ps : List (K × V))
+      → joint cmp join key (put_pair cmp join p ps) ≡ both join (value_under cmp key p) (joint cmp join key ps)
+  joint-put_pair key p [] = refl
+  joint-put_pair key p (f ∷ ps) =
+      elim (cmp p.0 f.0) as (λ o. cmp p.0 f.0 ≡ o → joint cmp join key (by_order o (p ∷ (f ∷ ps)) ((f.0, join p.1 f.1) ∷ ps) (f ∷ put_pair cmp join p ps))
+      ≡ both join (value_under cmp key p) (both join (value_under cmp key f) (joint cmp join key ps))) [
+        | Less ↦ λ e. refl
+        | Equal ↦ λ e.
+            joined_or_two join assoc (is_eq (cmp f.0 key)) p.1 f.1 (joint cmp join key ps)
+            ∙ ap (λ (k : K). both join (where_so (is_eq (cmp k key)) p.1) (both join (value_under cmp key f) (joint cmp join key ps))) (sym (same p.0 f.0 e))
+        | Greater ↦ λ e.
+            ap (both join (value_under cmp key f)) (joint-put_pair key p ps)
+            ∙ exchanged_apart join (is_eq (cmp f.0 key)) (is_eq (cmp p.0 key)) f.1 p.1 (joint cmp join key ps)
+            (λ h k. apart_keys cmp total same p.0 f.0 key e h k)
+      ] refl
+
+  -- collapsing keeps the joint value of each key
+  pub joint-collapse : (key : K) (ps : List (K × V)) → joint cmp join key (collapse cmp join ps) ≡ joint cmp join key ps
+  joint-collapse key [] = refl
+  joint-collapse key (p ∷ ps) = joint-put_pair key p (collapse cmp join ps) ∙ ap (both join (value_under cmp key p)) (joint-collapse key ps)
+
+  pub collapse-Rises : (ps : List (K × V)) → Rises cmp (keys_of (collapse cmp join ps))
+  collapse-Rises ps = subst (Rises cmp) (sym (keys_of-collapse cmp join ps)) (members-Rises cmp total same (keys_of ps))
+
+  under_none : (b : Bool) (v : V) (t : Option V) → b ≡ false → t ≡ None → both join (where_so b v) t ≡ None
+  under_none false v t e h = h
+  under_none true v t e h = cc
+
+  under_some : (b : Bool) (v : V) (t : Option V) → b ≡ true → t ≡ None → both join (where_so b v) t ≡ Some v
+  under_some false v t e h = cc
+  under_some true v t e h = ap (both join (Some v)) h
+
+  -- pairs of keys that stand behind a key have none of its values
+  pub joint-behind : (key : K) (ps : List (K × V)) → All (λ k. cmp key k ≡ Less) (keys_of ps) → joint cmp join key ps ≡ None
+  joint-behind key [] h = refl
+  joint-behind key (p ∷ ps) h =
+      under_none (is_eq (cmp p.0 key)) p.1 (joint cmp join key ps)
+      (not_tied cmp total same key p.0 (All-head (λ k. cmp key k ≡ Less) p.0 (keys_of ps) h))
+      (joint-behind key ps (All-tail (λ k. cmp key k ≡ Less) p.0 (keys_of ps) h))
+
+  -- of pairs whose keys rise, the first one's value is that of its key
+  pub joint-itself : (p : K × V) (ps : List (K × V)) → Rises cmp (keys_of (p ∷ ps)) → joint cmp join p.0 (p ∷ ps) ≡ Some p.1
+  joint-itself p ps h =
+      under_some (is_eq (cmp p.0 p.0)) p.1 (joint cmp join p.0 ps) (ap is_eq (tied_itself total p.0)) (joint-behind p.0 ps h.0)
+
+  behind_all : (a b : K) (ks : List K) → cmp a b ≡ Less → All (λ k. cmp b k ≡ Less) ks → All (λ k. cmp a k ≡ Less) (b ∷ ks)
+  behind_all a b ks below h =
+      All-cons (λ k. cmp a k ≡ Less) b ks below (All-weaker (λ k. cmp b k ≡ Less) (λ k. cmp a k ≡ Less) (λ k f. total.trans a b k below f) ks h)
+
+  -- a key in front of all others has a joint value that the others lack
+  not_in_front : (p q : K × V) (ps qs : List (K × V)) → Rises cmp (keys_of (p ∷ ps)) → Rises cmp (keys_of (q ∷ qs))
+      → joint cmp join p.0 (p ∷ ps) ≡ joint cmp join p.0 (q ∷ qs) → cmp p.0 q.0 ≡ Less → ⊥
+  not_in_front p q ps qs h k alike below =
+      let there : joint cmp join p.0 (p ∷ ps) ≡ Some p.1 = joint-itself p ps h in
+      let absent : joint cmp join p.0 (q ∷ qs) ≡ None = joint-behind p.0 (q ∷ qs) (behind_all p.0 q.0 (keys_of qs) below k.0) in
+      let apart : ◌≡◌ {A = Option V} (Some p.1) None = sym there ∙ alike ∙ absent in
+      cc
+
+  same_first : (p q : K × V) (ps qs : List (K × V)) → Rises cmp (keys_of (p ∷ ps)) → Rises cmp (keys_of (q ∷ qs))
+      → ((key : K) → joint cmp join key (p ∷ ps) ≡ joint cmp join key (q ∷ qs)) → p.0 ≡ q.0
+  same_first p q ps qs h k alike =
+      elim (cmp p.0 q.0) as (λ o. cmp p.0 q.0 ≡ o → p.0 ≡ q.0) [
+        | Less ↦ λ e. absurd (not_in_front p q ps qs h k (alike p.0) e)
+        | Equal ↦ λ e. same p.0 q.0 e
+        | Greater ↦ λ e. absurd (not_in_front q p qs ps k h (sym (alike q.0)) (above cmp total same p.0 q.0 e))
+      ] refl
+
+  some_same : (a b : V) → Some a ≡ Some b → a ≡ b
+  some_same a b e = cc
+
+  first_value : (p q : K × V) (ps qs : List (K × V)) → Rises cmp (keys_of (p ∷ ps)) → Rises cmp (keys_of (q ∷ qs))
+      → ((key : K) → joint cmp join key (p ∷ ps) ≡ joint cmp join key (q ∷ qs)) → p.0 ≡ q.0 → p.1 ≡ q.1
+  first_value p q ps qs h k alike e =
+      some_same p.1 q.1 (sym (joint-itself p ps h) ∙ alike p.0 ∙ ap (λ (key : K). joint cmp join key (q ∷ qs)) e ∙ joint-itself q qs k)
+
+  rest_under : (b : Bool) (v w : V) (s t : Option V) → (b ≡ true → s ≡ t) → both join (where_so b v) s ≡ both join (where_so b w) t → s ≡ t
+  rest_under false v w s t h e = e
+  rest_under true v w s t h e = h refl
+
+  -- the joint values of the pairs behind the first ones
+  rest_alike : (p q : K × V) (ps qs : List (K × V)) → Rises cmp (keys_of (p ∷ ps)) → Rises cmp (keys_of (q ∷ qs)) → p.0 ≡ q.0
+      → ((key : K) → joint cmp join key (p ∷ ps) ≡ joint cmp join key (q ∷ qs)) → (key : K) → joint cmp join key ps ≡ joint cmp join key qs
+  rest_alike p q ps qs h k e alike key =
+      rest_under (is_eq (cmp p.0 key)) p.1 q.1 (joint cmp join key ps) (joint cmp join key qs)
+      (λ so.
+      let at : p.0 ≡ key = same_key cmp total same p.0 key so in
+      let none : joint cmp join key ps ≡ None = subst (λ (x : K). joint cmp join x ps ≡ None) at (joint-behind p.0 ps h.0) in
+      let other : joint cmp join key qs ≡ None = subst (λ (x : K). joint cmp join x qs ≡ None) (sym e ∙ at) (joint-behind q.0 qs k.0) in
+      none ∙ sym other)
+      (alike key ∙ ap (λ (x : K). both join (where_so (is_eq (cmp x key)) q.1) (joint cmp join key qs)) (sym e))
+
+  -- pairs whose keys rise are known by the joint values of keys
+  pub joint-unique : (ps qs : List (K × V)) → Rises cmp (keys_of ps) → Rises cmp (keys_of qs)
+      → ((key : K) → joint cmp join key ps ≡ joint cmp join key qs) → ps ≡ qs
+  joint-unique [] [] h k alike = refl
+  joint-unique [] (q ∷ qs) h k alike = let apart : ◌≡◌ {A = Option V} None (Some q.1) = alike q.0 ∙ joint-itself q qs k in cc
+  joint-unique (p ∷ ps) [] h k alike = let apart : ◌≡◌ {A = Option V} (Some p.1) None = sym (joint-itself p ps h) ∙ alike p.0 in cc
+  joint-unique (p ∷ ps) (q ∷ qs) h k alike =
+      let e : p.0 ≡ q.0 = same_first p q ps qs h k alike in
+      let first : p ≡ q = ap₂ (λ (a : K) (b : V). (a, b)) e (first_value p q ps qs h k alike e) in
+      ap₂ (λ (x : K × V) (xs : List (K × V)). x ∷ xs) first (joint-unique ps qs h.1 k.1 (rest_alike p q ps qs h k e alike))
+
+  pub collapse-unique : (ps qs : List (K × V)) → Rises cmp (keys_of qs) → ((key : K) → joint cmp join key qs ≡ joint cmp join key ps) → qs ≡ collapse cmp join ps
+  collapse-unique ps qs h alike =
+      joint-unique qs (collapse cmp join ps) h (collapse-Rises ps) (λ key. alike key ∙ sym (joint-collapse key ps))
+
+  -- collapsing goes by the joint values alone
+  pub collapse-alike : (ps qs : List (K × V)) → ((key : K) → joint cmp join key ps ≡ joint cmp join key qs) → collapse cmp join ps ≡ collapse cmp join qs
+  collapse-alike ps qs alike = collapse-unique qs (collapse cmp join ps) (collapse-Rises ps) (λ key. joint-collapse key ps ∙ alike key)
+
+  pub collapse-itself : (ps : List (K × V)) → Rises cmp (keys_of ps) → collapse cmp join ps ≡ ps
+  collapse-itself ps h = sym (collapse-unique ps ps h (λ key. refl))
+
+  pub collapse-append : (ps qs : List (K × V)) → collapse cmp join (collapse cmp join ps ++ collapse cmp join qs) ≡ collapse cmp join (ps ++ qs)
+  collapse-append ps qs =
+      collapse-alike (collapse cmp join ps ++ collapse cmp join qs) (ps ++ qs) (λ key.
+      joint-append cmp join assoc key (collapse cmp join ps) (collapse cmp join qs)
+      ∙ ap₂ (both join) (joint-collapse key ps) (joint-collapse key qs)
+      ∙ sym (joint-append cmp join assoc key ps qs))
+
+  pub collapse-flat_map : {A : Type 0} (f : A → List (K × V)) (parts : List A)
+      → collapse cmp join (flat_map (λ part. collapse cmp join (f part)) parts) ≡ collapse cmp join (flat_map f parts)
+  collapse-flat_map {A} f parts =
+      collapse-alike (flat_map (λ (part : A). collapse cmp join (f part)) parts) (flat_map f parts) (λ key.
+      joint-flat_map cmp join assoc key (λ (part : A). collapse cmp join (f part)) f (λ part. joint-collapse key (f part)) parts)
+
+  pub collapse-permuted : IsCommutative join → (ps qs : List (K × V)) → IsPermutation ps qs → collapse cmp join ps ≡ collapse cmp join qs
+  collapse-permuted comm ps qs moved = collapse-alike ps qs (λ key. sym (joint-permuted cmp join assoc comm key ps qs moved))
