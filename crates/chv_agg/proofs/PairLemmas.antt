@@ -1,5 +1,5 @@
 -- Pairs of a key and a value, those of one key as one.
-use Rattle.std.proofs.Common.{◌≡◌, ℕ, zero, suc, ◌<◌, Bool, true, false, cond, if◌then◌else◌, List, [], ◌∷◌, ◌++◌, map, length, get_or, set, swap, Option, None, Some, Less, Equal, Greater, refl, sym, ap, ap₂, subst, ◌∙◌, arith, filter, flat_map, option_map}
+use Rattle.std.proofs.Common.{◌≡◌, ℕ, zero, suc, ◌<◌, Bool, true, false, cond, if◌then◌else◌, List, [], ◌∷◌, ◌++◌, map, length, get_or, set, swap, Option, None, Some, Less, Equal, Greater, refl, sym, ap, ap₂, subst, ◌∙◌, arith, filter, flat_map, fold}
 use Rattle.std.proofs.lemmas.Cmp.{tied_itself}
 use Rattle.std.proofs.lemmas.List.Edits.{swap_is}
 use Rattle.std.proofs.lemmas.List.Elements.{All-nil, All-cons, All-weaker, All-filter, All-head, All-tail}
@@ -10,7 +10,7 @@ use Rattle.std.specs.List.{All}
 use Rattle.std.specs.List.Sorted.{IsPermutation}
 use Rattle.std.specs.Ordering.{is_eq, ordering_reverse}
 use Rattle.std.specs.declared.cmp.Ordering.{Ordering}
-use Rattle.chv_agg.specs.Pairs.{IsAssociative, IsCommutative, IsThrough, both, collapse, joint, join_each, kept, keys_of, put_pair, recast, value_under, values_under}
+use Rattle.chv_agg.specs.Pairs.{IsAssociative, IsCommutative, IsStepwise, IsThrough, both, collapse, each_by_key, grouped_by, items_under, joint, join_each, kept, keys_of, put_pair, recast, value_under}
 use Rattle.chv_types.proofs.MemberLemmas.{members-Rises}
 use Rattle.chv_types.specs.Members.{by_order, put_member, members, Rises}
 
@@ -297,3 +297,155 @@ module _ {K V : Type 0} (cmp : K → K → Ordering) (join : V → V → V) (tot
 
   pub collapse-permuted : IsCommutative join → (ps qs : List (K × V)) → IsPermutation ps qs → collapse cmp join ps ≡ collapse cmp join qs
   collapse-permuted comm ps qs moved = collapse-alike ps qs (λ key. sym (joint-permuted cmp join assoc comm key ps qs moved))
+
+-- other keys and other values: what is joined before goes on as what is joined after
+module _ {K L V W : Type 0} (fine : K → K → Ordering) (cmp : L → L → Ordering) (join : V → V → V) (other : W → W → W) (g : K → L) (f : V → W)
+    (fine_same : IsAntisymmetric fine) (assoc : IsAssociative other) (comm : IsCommutative other) (through : IsThrough join other f) where
+  abbrev value_at : L → K × V → Option W
+  value_at key p = where_so (is_eq (cmp (g p.0) key)) (f p.1)
+
+  abbrev joint_at : L → List (K × V) → Option W
+  joint_at key ps = joint cmp other key (recast g f ps)
+
+  joint-recast-put_pair : (key : L) (p : K × V) (ps : List (K × V)) → joint_at key (put_pair fine join p ps) ≡ both other (value_at key p) (joint_at key ps)
+  joint-recast-put_pair key p [] = refl
+  joint-recast-put_pair key p (q ∷ ps) =
+      elim (fine p.0 q.0) as (λ o. fine p.0 q.0 ≡ o → joint_at key (by_order o (p ∷ (q ∷ ps)) ((q.0, join p.1 q.1) ∷ ps) (q ∷ put_pair fine join p ps))
+      ≡ both other (value_at key p) (both other (value_at key q) (joint_at key ps))) [
+        | Less ↦ λ e. refl
+        | Equal ↦ λ e.
+            ap (λ (w : W). both other (where_so (is_eq (cmp (g q.0) key)) w) (joint_at key ps)) (through p.1 q.1)
+            ∙ joined_or_two other assoc (is_eq (cmp (g q.0) key)) (f p.1) (f q.1) (joint_at key ps)
+            ∙ ap (λ (k : K). both other (where_so (is_eq (cmp (g k) key)) (f p.1)) (both other (value_at key q) (joint_at key ps))) (sym (fine_same p.0 q.0 e))
+        | Greater ↦ λ e.
+            ap (both other (value_at key q)) (joint-recast-put_pair key p ps)
+            ∙ both-exchanged other assoc comm (value_at key q) (value_at key p) (joint_at key ps)
+      ] refl
+
+  pub joint-recast-collapse : (key : L) (ps : List (K × V)) → joint cmp other key (recast g f (collapse fine join ps)) ≡ joint cmp other key (recast g f ps)
+  joint-recast-collapse key [] = refl
+  joint-recast-collapse key (p ∷ ps) = joint-recast-put_pair key p (collapse fine join ps) ∙ ap (both other (value_at key p)) (joint-recast-collapse key ps)
+
+  pub collapse-recast : IsTotalOrder cmp → IsAntisymmetric cmp → (ps : List (K × V))
+      → collapse cmp other (recast g f (collapse fine join ps)) ≡ collapse cmp other (recast g f ps)
+  collapse-recast total same ps =
+      collapse-alike cmp other total same assoc (recast g f (collapse fine join ps)) (recast g f ps) (λ key. joint-recast-collapse key ps)
+
+-- what a test of items keeps still rises
+Rises-filter : {K : Type 0} (cmp : K → K → Ordering) (keep : K → Bool) (ks : List K) → Rises cmp ks → Rises cmp (filter keep ks)
+Rises-filter cmp keep [] h = tt
+Rises-filter cmp keep (k ∷ ks) h =
+    elim (keep k) as (λ b. Rises cmp (cond b (k ∷ filter keep ks) (filter keep ks))) [
+      | true ↦ (All-filter keep (λ x. cmp k x ≡ Less) ks h.0, Rises-filter cmp keep ks h.1)
+      | false ↦ Rises-filter cmp keep ks h.1
+    ]
+
+-- pairs whose keys pass a test
+module _ {K V : Type 0} (cmp : K → K → Ordering) (join : V → V → V) (total : IsTotalOrder cmp) (same : IsAntisymmetric cmp) (keep : K → Bool) where
+  keys_of-kept : (ps : List (K × V)) → keys_of (kept keep ps) ≡ filter keep (keys_of ps)
+  keys_of-kept [] = refl
+  keys_of-kept (p ∷ ps) =
+      elim (keep p.0) as (λ b. keys_of (cond b (p ∷ kept keep ps) (kept keep ps)) ≡ cond b (p.0 ∷ filter keep (keys_of ps)) (filter keep (keys_of ps))) [
+        | true ↦ ap (λ (ks : List K). p.0 ∷ ks) (keys_of-kept ps)
+        | false ↦ keys_of-kept ps
+      ]
+
+  -- so is the key b, where the test so says that it has the value; its own test is c, and that of the key asked for is d
+  kept_or_not : (b c so : Bool) (v : V) (t r : Option V) → (so ≡ true → b ≡ c) → r ≡ cond c t None
+      → cond b (both join (where_so so v) r) r ≡ cond c (both join (where_so so v) t) None
+  kept_or_not true true so v t r h e = ap (both join (where_so so v)) e
+  kept_or_not true false true v t r h e = let apart : true ≡ false = h refl in cc
+  kept_or_not true false false v t r h e = e
+  kept_or_not false true true v t r h e = let apart : false ≡ true = h refl in cc
+  kept_or_not false true false v t r h e = e
+  kept_or_not false false so v t r h e = e
+
+  pub joint-kept : (key : K) (ps : List (K × V)) → joint cmp join key (kept keep ps) ≡ cond (keep key) (joint cmp join key ps) None
+  joint-kept key [] = elim (keep key) as (λ b. ◌≡◌ {A = Option V} None (cond b None None)) [ true ↦ refl | false ↦ refl ]
+  joint-kept key (p ∷ ps) =
+      elim (keep p.0) as (λ b. joint cmp join key (cond b (p ∷ kept keep ps) (kept keep ps))
+      ≡ cond b (both join (value_under cmp key p) (joint cmp join key (kept keep ps))) (joint cmp join key (kept keep ps))) [ true ↦ refl | false ↦ refl ]
+      ∙ kept_or_not (keep p.0) (keep key) (is_eq (cmp p.0 key)) p.1 (joint cmp join key ps) (joint cmp join key (kept keep ps))
+      (λ so. ap keep (same_key cmp total same p.0 key so)) (joint-kept key ps)
+
+  pub kept-collapse : IsAssociative join → (ps : List (K × V)) → kept keep (collapse cmp join ps) ≡ collapse cmp join (kept keep ps)
+  kept-collapse assoc ps =
+      collapse-unique cmp join total same assoc (kept keep ps) (kept keep (collapse cmp join ps))
+      (subst (Rises cmp) (sym (keys_of-kept (collapse cmp join ps))) (Rises-filter cmp keep (keys_of (collapse cmp join ps)) (collapse-Rises cmp join total same assoc ps)))
+      (λ key. joint-kept key (collapse cmp join ps) ∙ ap (λ (t : Option V). cond (keep key) t None) (joint-collapse cmp join total same assoc key ps) ∙ sym (joint-kept key ps))
+
+-- what a function gives of a list that is not empty
+abbrev some_first : {A W : Type 0} → (List A → W) → List A → Option W
+some_first f [] = None
+some_first f (item ∷ items) = Some (f (item ∷ items))
+
+some_given : {A W : Type 0} (f : List A → W) (w : W) (items : List A) → some_first f items ≡ Some w → w ≡ f items
+some_given f w [] e = cc
+some_given f w (item ∷ items) e = cc
+
+-- pairs whose keys rise, of which each value is given by its key
+module _ {K W : Type 0} (cmp : K → K → Ordering) (join : W → W → W) (total : IsTotalOrder cmp) (same : IsAntisymmetric cmp) (assoc : IsAssociative join) (given : K → W) where
+  none_or_some : (b : Bool) (v : W) (t : Option W) (w : W) → (b ≡ true → t ≡ None) → t ≡ Some w → both join (where_so b v) t ≡ Some w
+  none_or_some false v t w h e = e
+  none_or_some true v t w h e = let apart : ◌≡◌ {A = Option W} None (Some w) = sym (h refl) ∙ e in cc
+
+  pairs_given : (rs : List (K × W)) → Rises cmp (keys_of rs) → ((key : K) (w : W) → joint cmp join key rs ≡ Some w → w ≡ given key)
+      → rs ≡ map (λ key. (key, given key)) (keys_of rs)
+  pairs_given [] h each = refl
+  pairs_given (r ∷ rs) h each =
+      ap₂ (λ (w : W) (more : List (K × W)). (r.0, w) ∷ more) (each r.0 r.1 (joint-itself cmp join total same assoc r rs h))
+      (pairs_given rs h.1 (λ key w e. each key w
+      (none_or_some (is_eq (cmp r.0 key)) r.1 (joint cmp join key rs) w
+      (λ so. subst (λ (x : K). joint cmp join x rs ≡ None) (same_key cmp total same r.0 key so) (joint-behind cmp join total same assoc r.0 rs h.0)) e)))
+
+-- items by their keys
+module _ {A K W : Type 0} (cmp : K → K → Ordering) (join : W → W → W) (key : A → K) (f : List A → W) (stepwise : IsStepwise join f) where
+  one_or_more : (b : Bool) (item : A) (items : List A) → both join (where_so b (f (item ∷ []))) (some_first f items) ≡ some_first f (cond b (item ∷ items) items)
+  one_or_more false item items = refl
+  one_or_more true item [] = refl
+  one_or_more true item (next ∷ items) = ap Some (sym (stepwise item next items))
+
+  joint-each_by_key : (k : K) (items : List A) → joint cmp join k (each_by_key key f items) ≡ some_first f (items_under cmp key k items)
+  joint-each_by_key k [] = refl
+  joint-each_by_key k (item ∷ items) =
+      ap (both join (where_so (is_eq (cmp (key item) k)) (f (item ∷ [])))) (joint-each_by_key k items)
+      ∙ one_or_more (is_eq (cmp (key item) k)) item (items_under cmp key k items)
+
+  keys_of-each_by_key : (items : List A) → keys_of (each_by_key key f items) ≡ map key items
+  keys_of-each_by_key [] = refl
+  keys_of-each_by_key (item ∷ items) = ap (λ (ks : List K). key item ∷ ks) (keys_of-each_by_key items)
+
+  -- items that are grouped are their results one by one, collapsed
+  pub collapse-each_by_key : IsTotalOrder cmp → IsAntisymmetric cmp → IsAssociative join
+      → (items : List A) → collapse cmp join (each_by_key key f items) ≡ grouped_by cmp key f items
+  collapse-each_by_key total same assoc items =
+      pairs_given cmp join total same assoc (λ k. f (items_under cmp key k items)) (collapse cmp join (each_by_key key f items))
+      (collapse-Rises cmp join total same assoc (each_by_key key f items))
+      (λ k w e. some_given f w (items_under cmp key k items)
+      (sym (joint-each_by_key k items) ∙ sym (joint-collapse cmp join total same assoc k (each_by_key key f items)) ∙ e))
+      ∙ ap (λ (ks : List K). map (λ k. (k, f (items_under cmp key k items))) ks)
+      (keys_of-collapse cmp join (each_by_key key f items) ∙ ap (members cmp) (keys_of-each_by_key items))
+
+-- what is stepwise
+module _ {A W : Type 0} (join : W → W → W) (unit : W) (g : A → W) (assoc : IsAssociative join) (comm : IsCommutative join) (alone : join unit unit ≡ unit) where
+  fold-behind : (a b : W) (items : List A) → fold join (join a b) (map g items) ≡ join a (fold join b (map g items))
+  fold-behind a b [] = refl
+  fold-behind a b (item ∷ items) = ap (λ (w : W). fold join w (map g items)) (assoc a b (g item)) ∙ fold-behind a (join b (g item)) items
+
+  -- a unit in front of both is one in front
+  one_unit : (a b : W) → join (join unit a) (join unit b) ≡ join (join unit a) b
+  one_unit a b =
+      sym (assoc (join unit a) unit b)
+      ∙ ap (λ (w : W). join w b) (assoc unit a unit ∙ ap (join unit) (comm a unit) ∙ sym (assoc unit unit a) ∙ ap (λ (w : W). join w a) alone)
+
+  -- joining one after the other, behind a unit that joins with itself to itself
+  pub fold-IsStepwise : IsStepwise join (λ (items : List A). fold join unit (map g items))
+  fold-IsStepwise item next items =
+      ap (λ (w : W). fold join w (map g items)) (sym (one_unit (g item) (g next))) ∙ fold-behind (join unit (g item)) (join unit (g next)) items
+
+-- several stepwise results, place by place
+pub map-IsStepwise : {A C W : Type 0} (join : W → W → W) (f : C → List A → W) → ((c : C) → IsStepwise join (f c))
+    → (cs : List C) → IsStepwise (join_each join) (λ (items : List A). map (λ c. f c items) cs)
+map-IsStepwise join f stepwise [] item next items = refl
+map-IsStepwise {W = W} join f stepwise (c ∷ cs) item next items =
+    ap₂ (λ (w : W) (ws : List W). w ∷ ws) (stepwise c item next items) (map-IsStepwise join f stepwise cs item next items)

@@ -3,7 +3,7 @@ use Rattle.std.specs.Prelude.{◌≡◌, Bool, true, false, if◌then◌else◌,
 use Rattle.std.specs.List.{filter}
 use Rattle.std.specs.Ordering.{is_eq}
 use Rattle.std.specs.declared.cmp.Ordering.{Ordering}
-use Rattle.chv_types.specs.Members.{by_order}
+use Rattle.chv_types.specs.Members.{by_order, members}
 
 -- a joining gives the same however its steps are grouped
 abbrev pub IsAssociative : {V : Type 0} → (V → V → V) → Type 0
@@ -16,6 +16,10 @@ IsCommutative {V} join = (a b : V) → join a b ≡ join b a
 -- a function goes through two joinings: of joined values it gives the joined results
 abbrev pub IsThrough : {V W : Type 0} → (V → V → V) → (W → W → W) → (V → W) → Type 0
 IsThrough {V} join other f = (a b : V) → f (join a b) ≡ other (f a) (f b)
+
+-- a function of lists is stepwise: the first item's result is joined in front of that of the others
+abbrev pub IsStepwise : {A V : Type 0} → (V → V → V) → (List A → V) → Type 0
+IsStepwise {A} join f = (first next : A) (items : List A) → f (first ∷ (next ∷ items)) ≡ join (f (first ∷ [])) (f (next ∷ items))
 
 -- two values as one, where they are there
 abbrev pub both : {V : Type 0} → (V → V → V) → Option V → Option V → Option V
@@ -52,10 +56,6 @@ abbrev pub collapse : {K V : Type 0} → (K → K → Ordering) → (V → V →
 collapse cmp join [] = []
 collapse cmp join (pair ∷ pairs) = put_pair cmp join pair (collapse cmp join pairs)
 
--- the values of a key, as they come
-abbrev pub values_under : {K V : Type 0} → (K → K → Ordering) → K → List (K × V) → List V
-values_under cmp key pairs = map (λ pair. pair.1) (filter (λ pair. is_eq (cmp pair.0 key)) pairs)
-
 -- the value of a pair, where it has the key
 abbrev pub value_under : {K V : Type 0} → (K → K → Ordering) → K → K × V → Option V
 value_under cmp key pair = if is_eq (cmp pair.0 key) then Some pair.1 else None
@@ -64,3 +64,15 @@ value_under cmp key pair = if is_eq (cmp pair.0 key) then Some pair.1 else None
 abbrev pub joint : {K V : Type 0} → (K → K → Ordering) → (V → V → V) → K → List (K × V) → Option V
 joint cmp join key [] = None
 joint cmp join key (pair ∷ pairs) = both join (value_under cmp key pair) (joint cmp join key pairs)
+
+-- the items of a key
+abbrev pub items_under : {A K : Type 0} → (K → K → Ordering) → (A → K) → K → List A → List A
+items_under cmp key_of key items = filter (λ item. is_eq (cmp (key_of item) key)) items
+
+-- items grouped by their keys: each key once and in order, with what a function gives of its items
+abbrev pub grouped_by : {A K V : Type 0} → (K → K → Ordering) → (A → K) → (List A → V) → List A → List (K × V)
+grouped_by cmp key_of f items = map (λ key. (key, f (items_under cmp key_of key items))) (members cmp (map key_of items))
+
+-- items one by one: the key of each, with what the function gives of it alone
+abbrev pub each_by_key : {A K V : Type 0} → (A → K) → (List A → V) → List A → List (K × V)
+each_by_key key_of f items = map (λ item. (key_of item, f (item ∷ []))) items
