@@ -1,5 +1,5 @@
 -- Pairs of a key and a value, those of one key as one.
-use Rattle.std.specs.Prelude.{◌≡◌, Bool, true, false, if◌then◌else◌, List, [], ◌∷◌, map, Option, None, Some}
+use Rattle.std.specs.Prelude.{◌≡◌, Bool, if◌then◌else◌, List, [], ◌∷◌, map, Option, None, Some}
 use Rattle.std.specs.List.{filter}
 use Rattle.std.specs.Ordering.{is_eq}
 use Rattle.std.specs.declared.cmp.Ordering.{Ordering}
@@ -22,10 +22,10 @@ abbrev pub IsStepwise : {A V : Type 0} → (V → V → V) → (List A → V) �
 IsStepwise {A} join f = (first next : A) (items : List A) → f (first ∷ (next ∷ items)) ≡ join (f (first ∷ [])) (f (next ∷ items))
 
 -- two values as one, where they are there
-abbrev pub both : {V : Type 0} → (V → V → V) → Option V → Option V → Option V
-both join None b = b
-both join (Some a) None = Some a
-both join (Some a) (Some b) = Some (join a b)
+abbrev pub join_found : {V : Type 0} → (V → V → V) → Option V → Option V → Option V
+join_found join None b = b
+join_found join (Some a) None = Some a
+join_found join (Some a) (Some b) = Some (join a b)
 
 -- two lists of values as one, place by place; where one ends, the other goes on
 abbrev pub join_each : {V : Type 0} → (V → V → V) → List V → List V → List V
@@ -34,8 +34,8 @@ join_each join (a ∷ rest) [] = a ∷ rest
 join_each join (a ∷ rest) (b ∷ bs) = join a b ∷ join_each join rest bs
 
 -- the keys of pairs
-abbrev pub keys_of : {K V : Type 0} → List (K × V) → List K
-keys_of pairs = map (λ pair. pair.0) pairs
+abbrev pub pair_keys : {K V : Type 0} → List (K × V) → List K
+pair_keys pairs = map (λ pair. pair.0) pairs
 
 -- the pairs whose key passes a test
 abbrev pub kept : {K V : Type 0} → (K → Bool) → List (K × V) → List (K × V)
@@ -63,7 +63,7 @@ value_under cmp key pair = if is_eq (cmp pair.0 key) then Some pair.1 else None
 -- the values of a key as one, joined as they come, where a pair has the key
 abbrev pub joint : {K V : Type 0} → (K → K → Ordering) → (V → V → V) → K → List (K × V) → Option V
 joint cmp join key [] = None
-joint cmp join key (pair ∷ pairs) = both join (value_under cmp key pair) (joint cmp join key pairs)
+joint cmp join key (pair ∷ pairs) = join_found join (value_under cmp key pair) (joint cmp join key pairs)
 
 -- the items of a key
 abbrev pub items_under : {A K : Type 0} → (K → K → Ordering) → (A → K) → K → List A → List A

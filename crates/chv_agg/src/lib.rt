@@ -8,7 +8,10 @@ mod states;
 mod tally;
 
 pub use any_agg::{AnyAgg, ValueSet};
-pub use pair_laws::{law_collapsed_parts, law_grouped_items, law_joined_lists, law_mapped_pairs, law_pairs, law_recast_pairs};
+pub use pair_laws::{
+    law_collapsed_parts, law_grouped_items, law_joined_lists, law_mapped_pairs, law_pairs,
+    law_recast_pairs, law_stepwise,
+};
 pub use plain::{plain_size, read_scalar, scalar_code, spell_scalar};
 pub use states::{any_add, any_finish, any_merge, any_read, any_spell, any_unit};
 pub use tally::Tally;

@@ -1,20 +1,21 @@
 // Laws of pairs of a key and a value, those of one key as one.
-ghost use Rattle.std.specs.Prelude.{◌≡◌, ◌++◌, List, Bool, flat_map};
+ghost use Rattle.std.specs.Prelude.{◌≡◌, ◌++◌, List, Bool, map};
+ghost use Rattle.std.specs.List.{flat_map, fold};
 ghost use Rattle.std.specs.Cmp.{IsTotalOrder};
 ghost use Rattle.std.specs.FinMap.{IsAntisymmetric};
 ghost use Rattle.std.specs.List.Sorted.{IsPermutation};
 ghost use Rattle.std.specs.declared.cmp.Ordering.{Ordering as Order};
-ghost use Rattle.chv_agg.specs.Pairs.{IsAssociative, IsCommutative, IsStepwise, IsThrough, collapse, each_by_key, grouped_by, joint, join_each, kept, keys_of, recast};
+ghost use Rattle.chv_agg.specs.Pairs.{IsAssociative, IsCommutative, IsStepwise, IsThrough, collapse, each_by_key, grouped_by, join_each, join_found, joint, kept, pair_keys, recast};
 ghost use Rattle.chv_types.specs.Members.{members, Rises};
 
 /// Collapsed pairs have the keys of the pairs, each once and in order, and with each key the value that joins all of its
-/// values as they come. No other pairs whose keys rise have so.
+/// values as they come. No other pairs whose keys rise have these.
 pub fn law_pairs<K, V>()
-    ensures keys { (cmp : K → K → Order) (join : V → V → V) (pairs : List (K × V)) → keys_of (collapse cmp join pairs) ≡ members cmp (keys_of pairs) }
+    ensures keys { (cmp : K → K → Order) (join : V → V → V) (pairs : List (K × V)) → pair_keys (collapse cmp join pairs) ≡ members cmp (pair_keys pairs) }
     ensures values { (cmp : K → K → Order) (join : V → V → V) → IsTotalOrder cmp → IsAntisymmetric cmp → IsAssociative join
         → (key : K) (pairs : List (K × V)) → joint cmp join key (collapse cmp join pairs) ≡ joint cmp join key pairs }
     ensures unique { (cmp : K → K → Order) (join : V → V → V) → IsTotalOrder cmp → IsAntisymmetric cmp → IsAssociative join
-        → (pairs others : List (K × V)) → Rises cmp (keys_of others) → ((key : K) → joint cmp join key others ≡ joint cmp join key pairs)
+        → (pairs others : List (K × V)) → Rises cmp (pair_keys others) → ((key : K) → joint cmp join key others ≡ joint cmp join key pairs)
         → others ≡ collapse cmp join pairs }
 {}
 
@@ -50,6 +51,15 @@ pub fn law_grouped_items<A, K, V>()
     ensures group { (cmp : K → K → Order) (join : V → V → V) (key_of : A → K) (f : List A → V)
         → IsTotalOrder cmp → IsAntisymmetric cmp → IsAssociative join → IsStepwise join f
         → (items : List A) → collapse cmp join (each_by_key key_of f items) ≡ grouped_by cmp key_of f items }
+{}
+
+/// Joining one after the other is stepwise, behind a unit that joined with itself is itself; and so are several results
+/// that are stepwise, place by place.
+pub fn law_stepwise<A, C, V>()
+    ensures fold { (join : V → V → V) (unit : V) (f : A → V) → IsAssociative join → IsCommutative join → join unit unit ≡ unit
+        → IsStepwise join (λ (items : List A). fold join unit (map f items)) }
+    ensures each { (join : V → V → V) (f : C → List A → V) → ((call : C) → IsStepwise join (f call))
+        → (calls : List C) → IsStepwise (join_each join) (λ (items : List A). map (λ call. f call items) calls) }
 {}
 
 /// Joining lists place by place keeps to what the joining of values keeps to.
