@@ -1,6 +1,7 @@
 pub mod FrontLemmas
 pub mod JoinFits
 pub mod JoinLemmas
+pub mod PairLemmas
 pub mod PlainLemmas
 pub mod ReadingLemmas
 pub mod SetLemmas

@@ -1,4 +1,5 @@
 pub mod Lists
+pub mod Pairs
 pub mod Plain
 pub mod StateBytes
 pub mod StateReading

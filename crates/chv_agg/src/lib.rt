@@ -3,6 +3,7 @@
 
 mod any_agg;
 mod byte_laws;
+mod pair_laws;
 mod plain;
 mod reading;
 mod spelling;
@@ -12,6 +13,10 @@ mod tally;
 pub use any_agg::{AnyAgg, ValueSet};
 pub use byte_laws::{
     law_join_bytes, law_state_front, law_state_in, law_state_in_fits, law_state_reads_back,
+};
+pub use pair_laws::{
+    law_collapsed_parts, law_grouped_items, law_joined_lists, law_mapped_pairs, law_pairs,
+    law_recast_pairs, law_stepwise,
 };
 pub use plain::{plain_size, read_scalar, scalar_code, spell_scalar};
 pub use reading::any_read;
