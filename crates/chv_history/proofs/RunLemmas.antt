@@ -14,7 +14,6 @@ use Rattle.chv_query.proofs.AcceptedLemmas.{IsMade, all_made}
 use Rattle.chv_part.specs.Forms.{form_of}
 use Rattle.chv_query.specs.Plans.{Delivery, planned}
 use Rattle.chv_query.proofs.ArrivalLemmas.{ArrivesIn, planned-arrives}
-use Rattle.chv_types.specs.Values.{IsPlain}
 use Rattle.chv_history.specs.Events.{Event, Plan, Moment, behind, happen}
 use Rattle.chv_history.specs.Histories.{History, IsLawful}
 use Rattle.chv_history.specs.Runs.{answer_events, delivered, delivery_event, entries_in, request_events, run_events, task_events}
@@ -110,15 +109,10 @@ all_fit plan history room =
     (λ d is. record { room = ltb-false MAX_ENTRIES (entries_in history d.table + deliveries_to d.table plan) (not-true (nat_lt MAX_ENTRIES (entries_in history d.table + deliveries_to d.table plan)) is) })
     plan (all_true fits plan room)
 
--- the tables of a lawful history have plain kinds
-pub plain_tables : (history : History) → IsLawful history → All (λ (def : TableDef). All IsPlain (kinds_of def)) (tables_of history.schema)
-plain_tables history lawful =
-    All-weaker IsMade (λ (def : TableDef). All IsPlain (kinds_of def)) (λ def made. made.plain) (tables_of history.schema) (all_made no_definitions history.schema lawful.schema)
-
 -- a plan is one that the history's tables may have
 pub may_bring : (asked : Insert) (plan : Plan) (history : History) → IsLawful history → planned (catalog_of history.schema) asked ≡ Ok plan → has_room plan (entries_in history) ≡ true → MayBring history plan
 may_bring asked plan history lawful brings room =
-    record { arrive = planned-arrives (catalog_of history.schema) asked plan (plain_tables history lawful) brings; fit = all_fit plan history room }
+    record { arrive = planned-arrives (catalog_of history.schema) asked plan brings; fit = all_fit plan history room }
 
 -- a task that keeps a history lawful
 abbrev pub TaskSound : History → Task → Type 0
