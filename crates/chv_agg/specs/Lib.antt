@@ -1,3 +1,4 @@
+pub mod AggregateLaws
 pub mod Lists
 pub mod Plain
 pub mod StateBytes

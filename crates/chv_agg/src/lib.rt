@@ -1,11 +1,13 @@
 //! Aggregate functions: states that stand for lists of values, joined in any order, and their bytes.
 #![tactic(auto)]
 
+mod aggregate;
 mod any_agg;
 mod plain;
 mod states;
 mod tally;
 
+pub use aggregate::Aggregate;
 pub use any_agg::{AnyAgg, ValueSet};
 pub use plain::{plain_size, read_scalar, scalar_code, spell_scalar};
 pub use states::{any_add, any_finish, any_merge, any_read, any_spell, any_unit};
