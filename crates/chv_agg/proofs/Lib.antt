@@ -1,1 +1,4 @@
+pub mod DistinctLemmas
 pub mod PlainLemmas
+pub mod StateLemmas
+pub mod TallyLemmas

@@ -1,14 +1,9 @@
 -- What aggregate functions keep to: docs/SQL.md, "Aggregate functions".
-use Rattle.std.specs.Prelude.{ℕ, ℤ, pos, ◌≡◌, ◌<◌, ◌^◌, ◌≤ℤ◌, ◌-◌, neg_ℤ, false, true, List, [], ◌∷◌, ◌++◌, length, map}
+use Rattle.std.specs.Prelude.{ℕ, ℤ, pos, ◌≡◌, ◌<◌, ◌^◌, ◌≤ℤ◌, ◌-◌, neg_ℤ, List, [], ◌∷◌, ◌++◌, map}
 use Rattle.std.specs.List.{All, fold}
-use Rattle.chv_agg.specs.States.{FitsFound, is_signed}
-use Rattle.chv_agg.specs.declared.any_agg.AnyAgg.{AnyAgg}
-use Rattle.chv_agg.specs.declared.any_agg.AnyAgg.TheVariants.{Count, SumU, SumI, Least, Greatest, Uniq}
 use Rattle.chv_types.specs.Fits.{IsOfScalar}
 use Rattle.chv_types.specs.Members.{Rises}
 use Rattle.chv_types.specs.Order.{value_cmp}
-use Rattle.chv_types.specs.declared.aggregate.AggName.{AggName}
-use Rattle.chv_types.specs.declared.aggregate.AggName.TheVariants as agg
 use Rattle.chv_types.specs.declared.kind.Scalar.{Scalar}
 use Rattle.chv_types.specs.declared.value.Value.{Value}
 
@@ -23,21 +18,6 @@ IsSigned n = (neg_ℤ (pos (2 ^ 63)) ≤ℤ n) × (n ≤ℤ pos (2 ^ 63 - 1))
 -- values are of a kind and rise
 abbrev pub IsSet : Scalar → List Value → Type 0
 IsSet arg values = All (IsOfScalar arg) values × Rises value_cmp values
-
--- a state is one of the function over values of the kind, however many values a set has
-abbrev pub FitsKind : AggName → Scalar → AnyAgg → Type 0
-FitsKind agg.Count arg (Count n) = IsUnsigned n
-FitsKind agg.Sum arg (SumU n) = (is_signed arg ≡ false) × IsUnsigned n
-FitsKind agg.Sum arg (SumI n) = (is_signed arg ≡ true) × IsSigned n
-FitsKind agg.Min arg (Least found) = FitsFound arg found
-FitsKind agg.Max arg (Greatest found) = FitsFound arg found
-FitsKind agg.UniqExact arg (Uniq values) = IsSet arg values
-FitsKind agg arg other = ⊥
-
--- a set has fewer than 2^64 values
-abbrev pub IsCounted : AnyAgg → Type 0
-IsCounted (Uniq values) = length values < 2 ^ 64
-IsCounted other = Unit {0}
 
 -- states are joined in any order; the state of no values changes none that fits, and what is made of states that fit, fits
 pub record AggregateLaws {State : Type 0} (Fits : Scalar → State → Type 0) (unit : State) (one : Value → State) (join : State → State → State) : Type 0 where

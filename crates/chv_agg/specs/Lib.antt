@@ -3,3 +3,4 @@ pub mod Lists
 pub mod Plain
 pub mod StateBytes
 pub mod States
+pub mod Tallies

@@ -3,9 +3,14 @@
 
 mod aggregate;
 mod any_agg;
+mod extremes;
+mod gathering;
+mod merges;
 mod plain;
 mod states;
+mod sums;
 mod tally;
+mod uniq;
 
 pub use aggregate::Aggregate;
 pub use any_agg::{AnyAgg, ValueSet};
