@@ -1,11 +1,11 @@
 -- What is left of a list that is sorted and has its repeats dropped are its members.
-use Rattle.std.proofs.Common.{◌≡◌, ◌++◌, Bool, true, List, [], ◌∷◌, refl, sym, ap, subst, append_assoc, ◌∙◌}
+use Rattle.std.proofs.Common.{◌≡◌, ◌++◌, true, List, [], ◌∷◌, refl, subst, append_assoc, ◌∙◌}
 use Rattle.std.proofs.lemmas.List.Elements.{All-from_recursion}
 use Rattle.std.proofs.lemmas.List.Filters.{dedup_is}
 use Rattle.std.proofs.lemmas.List.Kept.{IsStrictlySortedBy-dedup, Contains-dedup, Contains-from_dedup}
 use Rattle.std.proofs.lemmas.List.Sorted.{IsPermutation-append, IsPermutation-append_comm, IsPermutation-refl, IsPermutation-trans}
 use Rattle.std.specs.Cmp.{eq_by_cmp_equiv}
-use Rattle.std.specs.List.{All, Contains, dedup}
+use Rattle.std.specs.List.{dedup}
 use Rattle.std.specs.List.Retain.{IsFiltered, DiffersFromLast}
 use Rattle.std.specs.List.Sorted.{IsPermutation, IsSorted, IsStrictlySortedBy}
 use Rattle.std.specs.Ordering.{eq_by_cmp}
@@ -14,7 +14,7 @@ use Rattle.chv_types.specs.Members.{members, Rises, HaveSame}
 use Rattle.chv_types.specs.Order.{value_cmp}
 use Rattle.chv_types.specs.OrderLaws.{value_cmp_total, value_cmp-IsAntisymmetric}
 use Rattle.chv_types.specs.declared.value.Value.{Value}
-use Rattle.chv_types.proofs.MemberLemmas.{HaveSame-permuted, HaveSame-trans, HaveSame-append, members-append, members-permuted, members-unique}
+use Rattle.chv_types.proofs.MemberLemmas.{HaveSame-permuted, HaveSame-trans, members-permuted, members-unique}
 
 -- keys that are each below those behind them rise
 Rises-from_sorted : (xs : List Value) → IsStrictlySortedBy value_cmp xs → Rises value_cmp xs

@@ -1,5 +1,5 @@
 -- Sets that are joined.
-use Rattle.std.proofs.Common.{◌≡◌, ◌++◌, ◌∷◌, [], List, refl, sym, ap, ◌∙◌}
+use Rattle.std.proofs.Common.{◌≡◌, ◌++◌, List, refl, sym, ap, ◌∙◌}
 use Rattle.std.proofs.lemmas.List.Sorted.{IsPermutation-append_comm}
 use Rattle.std.specs.List.Sorted.{IsPermutation}
 use Rattle.std.specs.Prelude.{OnOk}
@@ -7,41 +7,16 @@ use Rattle.std.specs.declared.result.Result.{Result}
 use Rattle.std.specs.declared.result.Result.TheVariants.{Ok, Err}
 use Rattle.chv_agg.proofs.DistinctLemmas.{members-moved}
 use Rattle.chv_agg.specs.States.{join}
+use Rattle.chv_agg.specs.UniqLaws.{members-members, members-settled_first}
 use Rattle.chv_agg.specs.declared.any_agg.AnyAgg.TheVariants.{Uniq}
-use Rattle.chv_types.specs.Members.{members, Rises}
+use Rattle.chv_types.specs.Members.{members}
 use Rattle.chv_types.specs.Order.{value_cmp}
-use Rattle.chv_types.specs.OrderLaws.{value_cmp_total, value_cmp-IsAntisymmetric}
 use Rattle.chv_types.specs.declared.value.Value.{Value}
-use Rattle.chv_types.proofs.MemberLemmas.{HaveSame-sym, HaveSame-trans, HaveSame-append, members-append, members-HaveSame, members-Rises, members-unique}
 
 -- two sets as one
 pub join-Uniq : (a b : List Value) → join (Uniq a) (Uniq b) ≡ Uniq (members value_cmp (a ++ b))
 unfolding join
 join-Uniq a b = refl
-
--- the set of what is a set already is that
-pub members-again : (a : List Value) → Rises value_cmp a → members value_cmp a ≡ a
-members-again a rises = sym (members-unique value_cmp value_cmp_total value_cmp-IsAntisymmetric a a rises (λ z. ((λ at. at), (λ at. at))))
-
-same : (a : List Value) → members value_cmp (members value_cmp a) ≡ members value_cmp a
-same a = members-again _ (members-Rises value_cmp value_cmp_total value_cmp-IsAntisymmetric a)
-
--- the first of two lists may have settled
-pub members-settled_first : (a b : List Value) → members value_cmp (members value_cmp a ++ b) ≡ members value_cmp (a ++ b)
-members-settled_first a b =
-    sym (members-append value_cmp value_cmp_total value_cmp-IsAntisymmetric (members value_cmp a) b)
-    ∙ ap (λ (xs : List Value). members value_cmp (xs ++ members value_cmp b)) (same a)
-    ∙ members-append value_cmp value_cmp_total value_cmp-IsAntisymmetric a b
-
--- so may the second
-pub members-settled_second : (a b : List Value) → members value_cmp (a ++ members value_cmp b) ≡ members value_cmp (a ++ b)
-members-settled_second a b =
-    sym (members-append value_cmp value_cmp_total value_cmp-IsAntisymmetric a (members value_cmp b))
-    ∙ ap (λ (xs : List Value). members value_cmp (members value_cmp a ++ xs)) (same b)
-    ∙ members-append value_cmp value_cmp_total value_cmp-IsAntisymmetric a b
-
-pub members-members : (a : List Value) → members value_cmp (members value_cmp a) ≡ members value_cmp a
-members-members = same
 
 pub ruleset gathered_laws = (join-Uniq, members-settled_first, members-members)
 

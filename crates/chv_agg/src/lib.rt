@@ -3,8 +3,10 @@
 
 mod aggregate;
 mod any_agg;
+mod count;
 mod extremes;
 mod gathering;
+mod laws;
 mod merges;
 mod plain;
 mod states;
@@ -14,6 +16,13 @@ mod uniq;
 
 pub use aggregate::Aggregate;
 pub use any_agg::{AnyAgg, ValueSet};
+pub use count::Count;
+pub use extremes::{Greatest, Least};
+pub use laws::{
+    law_join_order, law_join_states, law_mixed_states, law_mixtures, law_state_of_list,
+};
 pub use plain::{plain_size, read_scalar, scalar_code, spell_scalar};
 pub use states::{any_add, any_finish, any_merge, any_read, any_spell, any_unit};
+pub use sums::{SignedSum, UnsignedSum};
 pub use tally::Tally;
+pub use uniq::Distinct;

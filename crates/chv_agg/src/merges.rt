@@ -2,45 +2,58 @@
 ghost use Rattle.std.specs.Prelude.{◌≡◌, IfOk, OnOk, OnErr};
 ghost use Rattle.chv_agg.specs.States.{join};
 
-use crate::extremes::{copied_found, higher_of_both, lower_of_both};
-use crate::sums::signed_sum;
-use crate::uniq::{copied_values, put_values};
-use crate::{AnyAgg, ValueSet};
+use crate::count::Count;
+use crate::extremes::{Greatest, Least, copied_found};
+use crate::sums::{SignedSum, UnsignedSum};
+use crate::uniq::Distinct;
+use crate::{Aggregate, AnyAgg, ValueSet};
 use chv_types::Value;
 use std::alloc::{AllocError, Global};
 
 /// Takes what was counted elsewhere.
 #[tactic(auto, unfolding(crate::specs::States::join))]
-pub(crate) fn merge_count(state: &mut AnyAgg, n: u64)
-    ensures { state.new ≡ join state.old (AnyAgg.Count n) }
+pub(crate) fn merge_count(alloc: Global, state: &mut AnyAgg, n: &u64) -> Result<(), AllocError>
+    ensures merged { OnOk result (state.new ≡ join state.old (AnyAgg.Count n.now)) }
+    ensures err { OnErr result (state.new ≡ state.old) }
 {
     match state {
-        AnyAgg::Count(m) => *m = m.wrapping_add(n),
-        _ => *state = AnyAgg::Count(n),
+        AnyAgg::Count(m) => Count::merge(alloc, m, n),
+        _ => {
+            *state = AnyAgg::Count(*n);
+            Ok(())
+        }
     }
 }
 
 /// Takes a sum of numbers without sign.
 #[tactic(auto, unfolding(crate::specs::States::join))]
-pub(crate) fn merge_unsigned(state: &mut AnyAgg, n: u64)
-    ensures { state.new ≡ join state.old (AnyAgg.SumU n) }
+pub(crate) fn merge_unsigned(alloc: Global, state: &mut AnyAgg, n: &u64) -> Result<(), AllocError>
+    ensures merged { OnOk result (state.new ≡ join state.old (AnyAgg.SumU n.now)) }
+    ensures err { OnErr result (state.new ≡ state.old) }
 {
     match state {
-        AnyAgg::Count(_) => {}
-        AnyAgg::SumU(m) => *m = m.wrapping_add(n),
-        _ => *state = AnyAgg::SumU(n),
+        AnyAgg::Count(_) => Ok(()),
+        AnyAgg::SumU(m) => UnsignedSum::merge(alloc, m, n),
+        _ => {
+            *state = AnyAgg::SumU(*n);
+            Ok(())
+        }
     }
 }
 
 /// Takes a sum of numbers with sign.
 #[tactic(auto, unfolding(crate::specs::States::join))]
-pub(crate) fn merge_signed(state: &mut AnyAgg, n: i64)
-    ensures { state.new ≡ join state.old (AnyAgg.SumI n) }
+pub(crate) fn merge_signed(alloc: Global, state: &mut AnyAgg, n: &i64) -> Result<(), AllocError>
+    ensures merged { OnOk result (state.new ≡ join state.old (AnyAgg.SumI n.now)) }
+    ensures err { OnErr result (state.new ≡ state.old) }
 {
     match state {
-        AnyAgg::Count(_) | AnyAgg::SumU(_) => {}
-        AnyAgg::SumI(m) => *m = signed_sum(*m, n),
-        _ => *state = AnyAgg::SumI(n),
+        AnyAgg::Count(_) | AnyAgg::SumU(_) => Ok(()),
+        AnyAgg::SumI(m) => SignedSum::merge(alloc, m, n),
+        _ => {
+            *state = AnyAgg::SumI(*n);
+            Ok(())
+        }
     }
 }
 
@@ -55,7 +68,7 @@ pub(crate) fn merge_least(
     ensures err { OnErr result (state.new ≡ state.old) }
 {
     match state {
-        AnyAgg::Least(kept) => lower_of_both(alloc, kept, found),
+        AnyAgg::Least(kept) => Least::merge(alloc, kept, found),
         AnyAgg::Greatest(_) | AnyAgg::Uniq(_) => {
             *state = AnyAgg::Least(copied_found(alloc, found)?);
             Ok(())
@@ -75,7 +88,7 @@ pub(crate) fn merge_greatest(
     ensures err { OnErr result (state.new ≡ state.old) }
 {
     match state {
-        AnyAgg::Greatest(kept) => higher_of_both(alloc, kept, found),
+        AnyAgg::Greatest(kept) => Greatest::merge(alloc, kept, found),
         AnyAgg::Uniq(_) => {
             *state = AnyAgg::Greatest(copied_found(alloc, found)?);
             Ok(())
@@ -95,7 +108,7 @@ pub(crate) fn merge_values(
     ensures err { OnErr result (state.new ≡ state.old) }
 {
     match state {
-        AnyAgg::Uniq(kept) => put_values(kept, copied_values(alloc, values)?),
+        AnyAgg::Uniq(kept) => Distinct::merge(alloc, kept, values),
         _ => Ok(()),
     }
 }

@@ -6,15 +6,15 @@ ghost use Rattle.chv_agg.specs.declared.any_agg.AnyAgg.{AnyAgg as SomeState};
 ghost use Rattle.chv_types.specs.Values.{seen_value};
 ghost use Rattle.chv_bytes.specs.Places.{StandsAt};
 
-use crate::AnyAgg;
-use crate::extremes::{found_or_default, keep_higher, keep_lower};
+use crate::count::Count;
+use crate::extremes::{Greatest, Least};
 use crate::merges::{
     merge_count, merge_greatest, merge_least, merge_signed, merge_unsigned, merge_values,
 };
-use crate::sums::{signed_number, signed_sum, unsigned_number};
-use crate::uniq::put_value;
+use crate::sums::{SignedSum, UnsignedSum};
+use crate::uniq::Distinct;
+use crate::{Aggregate, AnyAgg};
 use chv_types::{AggName, Bytes, Scalar, Seen, Value};
-use sqlite_items::Items;
 use std::alloc::{AllocError, Global};
 
 /// The state of no values.
@@ -22,21 +22,23 @@ pub fn any_unit(alloc: Global, agg: AggName, arg: Scalar) -> Result<AnyAgg, Allo
     ensures { IfOk result (λ state. state ≡ unit_of agg arg) }
 {
     match agg {
-        AggName::Count => Ok(AnyAgg::Count(0)),
-        AggName::Sum => Ok(sum_unit(arg)),
-        AggName::Min => Ok(AnyAgg::Least(None)),
-        AggName::Max => Ok(AnyAgg::Greatest(None)),
-        AggName::UniqExact => Ok(AnyAgg::Uniq(Items::new(alloc))),
+        AggName::Count => Ok(AnyAgg::Count(Count::unit(alloc))),
+        AggName::Sum => Ok(sum_unit(alloc, arg)),
+        AggName::Min => Ok(AnyAgg::Least(Least::unit(alloc))),
+        AggName::Max => Ok(AnyAgg::Greatest(Greatest::unit(alloc))),
+        AggName::UniqExact => Ok(AnyAgg::Uniq(Distinct::unit(alloc))),
     }
 }
 
 // The sum of no values of a kind.
-fn sum_unit(arg: Scalar) -> AnyAgg
+fn sum_unit(alloc: Global, arg: Scalar) -> AnyAgg
     ensures { result ≡ unit_of AggName.Sum arg }
 {
     match arg {
-        Scalar::Int8 | Scalar::Int16 | Scalar::Int32 | Scalar::Int64 => AnyAgg::SumI(0),
-        _ => AnyAgg::SumU(0),
+        Scalar::Int8 | Scalar::Int16 | Scalar::Int32 | Scalar::Int64 => {
+            AnyAgg::SumI(SignedSum::unit(alloc))
+        }
+        _ => AnyAgg::SumU(UnsignedSum::unit(alloc)),
     }
 }
 
@@ -55,21 +57,12 @@ pub(crate) fn add_seen(alloc: Global, state: &mut AnyAgg, input: Seen<'_>) -> Re
     ensures err { OnErr result (state.new ≡ state.old) }
 {
     match state {
-        AnyAgg::Count(n) => {
-            *n = n.wrapping_add(1);
-            Ok(())
-        }
-        AnyAgg::SumU(n) => {
-            *n = n.wrapping_add(unsigned_number(input));
-            Ok(())
-        }
-        AnyAgg::SumI(n) => {
-            *n = signed_sum(*n, signed_number(input));
-            Ok(())
-        }
-        AnyAgg::Least(found) => keep_lower(alloc, found, input),
-        AnyAgg::Greatest(found) => keep_higher(alloc, found, input),
-        AnyAgg::Uniq(values) => put_value(alloc, values, input),
+        AnyAgg::Count(n) => Count::add(alloc, n, input),
+        AnyAgg::SumU(n) => UnsignedSum::add(alloc, n, input),
+        AnyAgg::SumI(n) => SignedSum::add(alloc, n, input),
+        AnyAgg::Least(found) => Least::add(alloc, found, input),
+        AnyAgg::Greatest(found) => Greatest::add(alloc, found, input),
+        AnyAgg::Uniq(values) => Distinct::add(alloc, values, input),
     }
 }
 
@@ -79,18 +72,9 @@ pub fn any_merge(alloc: Global, state: &mut AnyAgg, other: &AnyAgg) -> Result<()
     ensures err { OnErr result (state.new ≡ state.old) }
 {
     match other {
-        AnyAgg::Count(n) => {
-            merge_count(state, *n);
-            Ok(())
-        }
-        AnyAgg::SumU(n) => {
-            merge_unsigned(state, *n);
-            Ok(())
-        }
-        AnyAgg::SumI(n) => {
-            merge_signed(state, *n);
-            Ok(())
-        }
+        AnyAgg::Count(n) => merge_count(alloc, state, n),
+        AnyAgg::SumU(n) => merge_unsigned(alloc, state, n),
+        AnyAgg::SumI(n) => merge_signed(alloc, state, n),
         AnyAgg::Least(found) => merge_least(alloc, state, found),
         AnyAgg::Greatest(found) => merge_greatest(alloc, state, found),
         AnyAgg::Uniq(values) => merge_values(alloc, state, values),
@@ -102,12 +86,12 @@ pub fn any_finish(alloc: Global, state: &AnyAgg, arg: Scalar) -> Result<Value, A
     ensures { IfOk result (λ value. value ≡ value_of arg state.now) }
 {
     match state {
-        AnyAgg::Count(n) => Ok(Value::Whole(i128::from(*n))),
-        AnyAgg::SumU(n) => Ok(Value::Whole(i128::from(*n))),
-        AnyAgg::SumI(n) => Ok(Value::Whole(i128::from(*n))),
-        AnyAgg::Least(found) => found_or_default(alloc, found, arg),
-        AnyAgg::Greatest(found) => found_or_default(alloc, found, arg),
-        AnyAgg::Uniq(values) => Ok(Value::Whole(values.len() as i128)),
+        AnyAgg::Count(n) => Count::finish(alloc, n, arg),
+        AnyAgg::SumU(n) => UnsignedSum::finish(alloc, n, arg),
+        AnyAgg::SumI(n) => SignedSum::finish(alloc, n, arg),
+        AnyAgg::Least(found) => Least::finish(alloc, found, arg),
+        AnyAgg::Greatest(found) => Greatest::finish(alloc, found, arg),
+        AnyAgg::Uniq(values) => Distinct::finish(alloc, values, arg),
     }
 }
 

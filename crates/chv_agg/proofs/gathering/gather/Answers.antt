@@ -1,5 +1,5 @@
 use Rattle.std.proofs.Common.{rules, ◌≡◌, ◌++◌, ◌∷◌, [], List, ap, sym, ◌∙◌}
-use Rattle.chv_agg.proofs.TallyLemmas.{members-settled_first}
+use Rattle.chv_agg.specs.UniqLaws.{members-settled_first}
 use Rattle.chv_types.specs.Members.{members}
 use Rattle.chv_types.specs.Order.{value_cmp}
 use Rattle.chv_types.specs.declared.value.Value.{Value}

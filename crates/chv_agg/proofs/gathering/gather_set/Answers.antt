@@ -1,4 +1,4 @@
-use Rattle.std.proofs.Common.{rules, ◌≡◌, ◌++◌}
+use Rattle.std.proofs.Common.{rules, ◌≡◌}
 use Rattle.chv_agg.proofs.TallyLemmas.{members-gathered}
 use Rattle.chv_types.specs.Members.{members}
 use Rattle.chv_types.specs.Order.{value_cmp}

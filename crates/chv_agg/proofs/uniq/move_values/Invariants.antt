@@ -1,4 +1,4 @@
-use Rattle.std.proofs.Common.{◌≡◌, ◌++◌, ◌+◌, ◌≤◌, length}
+use Rattle.std.proofs.Common.{◌++◌, ◌+◌, ◌≤◌, length}
 use Rattle.std.specs.List.Sorted.{IsPermutation}
 use Rattle.std.specs.Vec.{vec_len, vec_capacity}
 use Rattle.chv_agg.proofs.uniq.move_values.Given as goal

@@ -1,4 +1,4 @@
-use Rattle.std.proofs.Common.{rules, ◌++◌, ◌∙◌, sym}
+use Rattle.std.proofs.Common.{◌++◌, ◌∙◌, sym}
 use Rattle.std.specs.List.Sorted.{IsPermutation}
 use Rattle.chv_agg.proofs.DistinctLemmas.{members-moved}
 use Rattle.chv_agg.proofs.uniq.put_values.Goals as goal
