@@ -6,6 +6,7 @@ pub mod Functions
 pub mod Lists
 pub mod Plain
 pub mod StateBytes
+pub mod StateReading
 pub mod States
 pub mod SumLaws
 pub mod Tallies

@@ -1,11 +1,11 @@
 -- States in bytes: docs/FORMATS.md, "States".
-use Rattle.std.specs.Prelude.{ℕ, zero, suc, Bool, true, false, ◌&&◌, nat_le, if◌then◌else◌, List, [], ◌∷◌, ◌++◌, length, take, drop, Option, None, Some, ◌≡◌}
+use Rattle.std.specs.Prelude.{ℕ, zero, suc, Bool, true, false, ◌&&◌, nat_le, nat_lt, if◌then◌else◌, List, [], ◌∷◌, ◌++◌, length, take, drop, Option, None, Some, ◌≡◌}
 use Rattle.std.specs.Int.{w64, to_le_bytes}
 use Rattle.std.specs.Option.{option_map, option_and_then}
 use Rattle.std.specs.Ordering.{is_lt}
 use Rattle.byteorder.specs.Endian.{little_number}
 use Rattle.chv_agg.specs.Plain.{integers_of, scalar_spelling, values_spelling}
-use Rattle.chv_agg.specs.States.{FitsState, is_signed, unit_of}
+use Rattle.chv_agg.specs.States.{FitsState, is_signed, join, unit_of}
 use Rattle.chv_agg.specs.declared.any_agg.AnyAgg.{AnyAgg}
 use Rattle.chv_agg.specs.declared.any_agg.AnyAgg.TheVariants.{Count, SumU, SumI, Least, Greatest, Uniq}
 use Rattle.chv_bytes.specs.Integers.{int_bytes, int_value, width_of}
@@ -51,10 +51,19 @@ pub record AreState (agg : AggName) (arg : Scalar) (bytes : List ℕ) : Type 0 w
 abbrev pub front_of : ℕ → List ℕ → Option (List ℕ × List ℕ)
 front_of size bytes = if nat_le size (length bytes) then Some (take size bytes, drop size bytes) else None
 
+-- each number of a list is a byte
+abbrev pub are_bytes : List ℕ → Bool
+are_bytes [] = true
+are_bytes (byte ∷ bytes) = nat_lt byte 256 && are_bytes bytes
+
+-- the first of so many numbers and what is behind them, where they are there and are bytes
+abbrev pub word_of : ℕ → List ℕ → Option (List ℕ × List ℕ)
+word_of size bytes = option_and_then (λ cut. if are_bytes cut.0 then Some cut else None) (front_of size bytes)
+
 -- the integer in front of bytes
 abbrev pub whole_in : Option IntKind → List ℕ → Option (Value × List ℕ)
 whole_in None bytes = None
-whole_in (Some integers) bytes = option_map (λ cut. (Whole (int_value integers cut.0), cut.1)) (front_of (width_of integers) bytes)
+whole_in (Some integers) bytes = option_map (λ cut. (Whole (int_value integers cut.0), cut.1)) (word_of (width_of integers) bytes)
 
 -- the truth in front of bytes
 abbrev pub truth_in : List ℕ → Option (Value × List ℕ)
@@ -68,7 +77,7 @@ text_in bytes =
     option_and_then (λ head.
     if nat_le (little_number 4 head.0) 1048576
     then option_map (λ cut. (Text cut.0, cut.1)) (front_of (little_number 4 head.0) head.1)
-    else None) (front_of 4 bytes)
+    else None) (word_of 4 bytes)
 
 -- the value of a kind in front of bytes
 unfoldable pub scalar_in : Scalar → List ℕ → Option (Value × List ℕ)
@@ -98,16 +107,16 @@ found_in arg other = None
 abbrev pub uniq_in : Scalar → List ℕ → Option (AnyAgg × List ℕ)
 uniq_in arg bytes =
     option_and_then (λ head. option_and_then (λ read. if rises read.0 then Some (Uniq read.0, read.1) else None)
-    (values_in (little_number 8 head.0) arg head.1)) (front_of 8 bytes)
+    (values_in (little_number 8 head.0) arg head.1)) (word_of 8 bytes)
 
 -- the sum in front of bytes
 abbrev pub sum_in : Bool → List ℕ → Option (AnyAgg × List ℕ)
-sum_in false bytes = option_map (λ cut. (SumU (little_number 8 cut.0), cut.1)) (front_of 8 bytes)
-sum_in true bytes = option_map (λ cut. (SumI (int_value I64 cut.0), cut.1)) (front_of 8 bytes)
+sum_in false bytes = option_map (λ cut. (SumU (little_number 8 cut.0), cut.1)) (word_of 8 bytes)
+sum_in true bytes = option_map (λ cut. (SumI (int_value I64 cut.0), cut.1)) (word_of 8 bytes)
 
 -- the state of a function over values of a kind in front of bytes
 unfoldable pub state_front : AggName → Scalar → List ℕ → Option (AnyAgg × List ℕ)
-state_front agg.Count arg bytes = option_map (λ cut. (Count (little_number 8 cut.0), cut.1)) (front_of 8 bytes)
+state_front agg.Count arg bytes = option_map (λ cut. (Count (little_number 8 cut.0), cut.1)) (word_of 8 bytes)
 state_front agg.Sum arg bytes = sum_in (is_signed arg) bytes
 state_front agg.Min arg bytes = option_map (λ read. (Least read.0, read.1)) (found_in arg bytes)
 state_front agg.Max arg bytes = option_map (λ read. (Greatest read.0, read.1)) (found_in arg bytes)
@@ -122,3 +131,7 @@ whole_state unit (Some (state, byte ∷ bytes)) = unit
 -- the state that bytes spell; of bytes that spell none it is the state of no values
 abbrev pub state_in : AggName → Scalar → List ℕ → AnyAgg
 state_in agg arg bytes = whole_state (unit_of agg arg) (state_front agg arg bytes)
+
+-- the bytes of the state that two states in bytes are joined to
+abbrev pub join_bytes : AggName → Scalar → List ℕ → List ℕ → List ℕ
+join_bytes agg arg a b = state_bytes arg (join (state_in agg arg a) (state_in agg arg b))

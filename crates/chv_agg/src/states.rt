@@ -1,10 +1,8 @@
 // What is done with states.
-ghost use Rattle.std.specs.Prelude.{◌≡◌, ◌≢◌, ◌++◌, ℕ, List, drop, IfOk, IfSome, IsNone, OnOk, OnErr};
-ghost use Rattle.chv_agg.specs.StateBytes.{state_bytes, state_in};
+ghost use Rattle.std.specs.Prelude.{◌≡◌, IfOk, OnOk, OnErr};
+ghost use Rattle.chv_agg.specs.StateBytes.{state_in};
 ghost use Rattle.chv_agg.specs.States.{FitsState, join, one_like, unit_of, value_of};
-ghost use Rattle.chv_agg.specs.declared.any_agg.AnyAgg.{AnyAgg as SomeState};
 ghost use Rattle.chv_types.specs.Values.{seen_value};
-ghost use Rattle.chv_bytes.specs.Places.{StandsAt};
 
 use crate::count::Count;
 use crate::extremes::{Greatest, Least};
@@ -13,8 +11,8 @@ use crate::merges::{
 };
 use crate::sums::{SignedSum, UnsignedSum};
 use crate::uniq::Distinct;
-use crate::{Aggregate, AnyAgg};
-use chv_types::{AggName, Bytes, Scalar, Seen, Value};
+use crate::{Aggregate, AnyAgg, any_read};
+use chv_types::{AggName, Scalar, Seen, Value};
 use std::alloc::{AllocError, Global};
 
 /// The state of no values.
@@ -95,31 +93,6 @@ pub fn any_finish(alloc: Global, state: &AnyAgg, arg: Scalar) -> Result<Value, A
     }
 }
 
-/// A state over values of a kind in bytes.
-pub fn any_spell(alloc: Global, state: &AnyAgg, arg: Scalar) -> Result<Bytes, AllocError>
-    requires fits { (agg : AggName) × FitsState agg arg state.now }
-    ensures { IfOk result (λ bytes. bytes ≡ state_bytes arg state.now) }
-{
-    Err(AllocError)
-}
-
-/// The state of a function over values of a kind whose bytes begin at `at`, and the place behind them. None where no state's do:
-/// of values that do not rise, or of more than the bytes that are left have room for. A number of values is compared with the
-/// bytes that are left before memory is taken for it.
-pub fn any_read(
-    alloc: Global,
-    bytes: &[u8],
-    at: usize,
-    agg: AggName,
-    arg: Scalar,
-) -> Result<Option<(AnyAgg, usize)>, AllocError>
-    ensures fits { IfOk result (λ read. IfSome read (λ r. FitsState agg arg r.0)) }
-    ensures found { IfOk result (λ read. IfSome read (λ r. StandsAt (state_bytes arg r.0) bytes.now at r.1)) }
-    ensures none { IfOk result (λ read. IsNone read → (state : SomeState) (rest : List ℕ) → FitsState agg arg state → drop at bytes.now ≢ state_bytes arg state ++ rest) }
-{
-    Err(AllocError)
-}
-
 /// The state of a function over values of a kind that bytes spell; of bytes that spell none it is the state of no values.
 pub(crate) fn any_whole(
     alloc: Global,
@@ -130,5 +103,14 @@ pub(crate) fn any_whole(
     ensures whole { IfOk result (λ state. state ≡ state_in agg arg bytes.now) }
     ensures fits { IfOk result (λ state. FitsState agg arg state) }
 {
-    Err(AllocError)
+    match any_read(alloc, bytes, 0, agg, arg)? {
+        Some((state, behind)) => {
+            if behind == bytes.len() {
+                Ok(state)
+            } else {
+                any_unit(alloc, agg, arg)
+            }
+        }
+        None => any_unit(alloc, agg, arg),
+    }
 }

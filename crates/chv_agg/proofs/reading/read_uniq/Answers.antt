@@ -1,0 +1,16 @@
+use Rattle.std.proofs.Common.{◌-◌, ◌<◌, ◌^◌, length, rules}
+use Rattle.std.specs.Int.{to_le_bytes, w64}
+use Rattle.chv_bytes.specs.Places.{StandsAt}
+use Rattle.chv_agg.proofs.ReadingLemmas.{none_set, none_uniq, too_many}
+use Rattle.chv_agg.proofs.reading.read_uniq.Goals as goal
+
+pub returns-in_default-clause-none : goal.returns-in_default-clause-none
+returns-in_default-clause-none c none = none_uniq c.args.bytes.now c.args.at (search rules) c.args.arg
+
+pub returns-then-count-bytes-clause-none : goal.returns-then-count-bytes-clause-none
+returns-then-count-bytes-clause-none c none =
+    let stands : StandsAt (to_le_bytes w64 c.in-Some.count) c.args.bytes.now c.args.at c.in-Some.start = search rules in
+    let small : c.in-Some.count < 2 ^ 64 = search rules in
+    let more : length c.args.bytes.now - c.in-Some.start < c.in-Some.count = search rules in
+    none_set c.args.arg c.args.bytes.now c.args.at c.in-Some.start c.in-Some.count stands small
+    (too_many c.args.arg c.args.bytes.now c.in-Some.start c.in-Some.count more)
