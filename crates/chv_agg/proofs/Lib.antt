@@ -1,9 +1,14 @@
+pub mod DistinctLemmas
 pub mod FrontLemmas
 pub mod JoinFits
 pub mod JoinLemmas
+pub mod JoinOrder
 pub mod PairLemmas
 pub mod PlainLemmas
 pub mod ReadingLemmas
 pub mod SetLemmas
-pub mod StateByteLemmas
 pub mod StateFrontLemmas
+pub mod StateLaws
+pub mod StateLemmas
+pub mod TallyLemmas
+pub mod WholeLemmas

@@ -1,6 +1,14 @@
+pub mod AggregateLaws
+pub mod CountLaws
+pub mod ExtremeLaws
+pub mod FoldLaws
+pub mod Functions
 pub mod Lists
 pub mod Pairs
 pub mod Plain
 pub mod StateBytes
 pub mod StateReading
 pub mod States
+pub mod SumLaws
+pub mod Tallies
+pub mod UniqLaws
