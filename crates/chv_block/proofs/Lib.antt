@@ -1,5 +1,6 @@
 pub mod BlockLemmas
 pub mod CutLemmas
+pub mod DefaultLemmas
 pub mod JoinedLemmas
 pub mod LawLemmas
 pub mod PieceLemmas

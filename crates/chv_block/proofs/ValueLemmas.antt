@@ -1,7 +1,7 @@
 -- Values of kinds, and their spellings.
 use Rattle.std.proofs.Common.{◌≡◌, ℕ, List, ◌++◌, sym, ap, ◌∙◌}
 use Rattle.chv_agg.proofs.PlainLemmas.{one_scalar}
-use Rattle.chv_agg.proofs.StateByteLemmas.{one_state}
+use Rattle.chv_agg.proofs.StateFrontLemmas.{one_state_in_front}
 use Rattle.chv_agg.specs.StateBytes.{AreState, state_bytes}
 use Rattle.chv_types.specs.declared.aggregate.AggName.{AggName}
 use Rattle.chv_types.specs.declared.kind.Kind.{Kind}
@@ -16,7 +16,7 @@ one_spelling : (agg : AggName) (arg : Scalar) (a b x y : List ℕ) → AreState 
 one_spelling agg arg a b x y h k same =
     let spelled : state_bytes arg h.state ++ x ≡ state_bytes arg k.state ++ y =
     ap (λ (l : List ℕ). l ++ x) (sym h.spelled) ∙ same ∙ ap (λ (l : List ℕ). l ++ y) k.spelled in
-    let e = one_state agg arg h.state k.state x y h.fits k.fits spelled in
+    let e = one_state_in_front agg arg h.state k.state x y h.fits k.fits spelled in
     (h.spelled ∙ ap (state_bytes arg) e.0 ∙ sym k.spelled, e.1)
 
 -- bytes begin with one value of states at most

@@ -1,14 +1,11 @@
 -- How many bytes columns have at least.
-use Rattle.std.proofs.Common.{ℕ, ◌+◌, ◌*◌, ◌≤◌, List, [], ◌∷◌, length, true, false, Option, Some, None, sym, subst, arith, length-append}
+use Rattle.std.proofs.Common.{ℕ, ◌+◌, ◌*◌, ◌≤◌, List, [], ◌∷◌, length, Option, Some, None, sym, subst, arith, length-append}
 use Rattle.std.specs.List.{slice_get}
 use Rattle.chv_types.specs.declared.kind.Kind.{Kind}
 use Rattle.chv_types.specs.declared.kind.Kind.TheVariants as kind
-use Rattle.chv_types.specs.declared.kind.Scalar.{Scalar}
-use Rattle.chv_types.specs.declared.kind.Scalar.TheVariants as scalar
 use Rattle.chv_types.specs.declared.value.Value.{Value}
 use Rattle.chv_types.specs.declared.value.Value.TheVariants.{Whole, Truth, Text, State}
-use Rattle.chv_types.specs.Fits.{IsOfScalar}
-use Rattle.chv_agg.specs.Plain.{scalar_spelling}
+use Rattle.chv_agg.proofs.ReadingLemmas.{some_bytes}
 use Rattle.chv_agg.proofs.StateByteLemmas.{some_state}
 use Rattle.chv_block.specs.Spellings.{IsOf, value_spelling, AllAreOf}
 use Rattle.chv_part.specs.Columns.{IsSomeOf, ColumnIsOf}
@@ -16,24 +13,8 @@ use Rattle.chv_part.specs.Parts.{spelled, column_spelling, columns_spelling}
 use Rattle.chv_part.proofs.ColumnLemmas.{tails, column_fits, others_fit, from_first}
 
 -- a value has a byte at least
-scalar_byte : (plain : Scalar) (value : Value) → IsOfScalar plain value → 1 ≤ length (scalar_spelling plain value)
-scalar_byte scalar.UInt8 (Whole n) of = omega arith
-scalar_byte scalar.UInt16 (Whole n) of = omega arith
-scalar_byte scalar.UInt32 (Whole n) of = omega arith
-scalar_byte scalar.UInt64 (Whole n) of = omega arith
-scalar_byte scalar.Int8 (Whole n) of = omega arith
-scalar_byte scalar.Int16 (Whole n) of = omega arith
-scalar_byte scalar.Int32 (Whole n) of = omega arith
-scalar_byte scalar.Int64 (Whole n) of = omega arith
-scalar_byte scalar.Bool (Whole n) of = absurd of
-scalar_byte scalar.Text (Whole n) of = absurd of
-scalar_byte plain (Truth false) of = omega arith
-scalar_byte plain (Truth true) of = omega arith
-scalar_byte plain (Text text) of = omega arith
-scalar_byte plain (State spelling) of = absurd of
-
 value_byte : (kind : Kind) (value : Value) → IsOf kind value → 1 ≤ length (value_spelling kind value)
-value_byte (kind.Plain plain) value of = scalar_byte plain value of
+value_byte (kind.Plain plain) value of = some_bytes plain value of
 value_byte (kind.State agg plain) (State spelling) of = subst (λ (l : List ℕ). 1 ≤ length l) (sym of.spelled) (some_state plain of.state)
 value_byte (kind.State agg plain) (Whole n) of = absurd of
 value_byte (kind.State agg plain) (Truth truth) of = absurd of

@@ -1,6 +1,6 @@
 -- What is held of a table, beside its files and the book that they stand for.
 use Rattle.std.specs.List.{All}
-use Rattle.std.specs.Prelude.{ℕ, ◌≡◌, ◌+◌, ◌-◌, ◌*◌, ◌<◌, ◌≤◌, ◌^◌, List, length, map, Some}
+use Rattle.std.specs.Prelude.{ℕ, ◌≡◌, ◌+◌, ◌*◌, ◌<◌, ◌≤◌, ◌^◌, List, length, map, Some}
 use Rattle.chv_site.specs.declared.file_id.FileId.{FileId}
 use Rattle.chv_site.specs.Files.{FileState, settled}
 use Rattle.chv_site.specs.FileIds.{part_of}
