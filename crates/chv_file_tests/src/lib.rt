@@ -12,4 +12,6 @@ mod part;
 #[cfg(test)]
 mod site;
 #[cfg(test)]
+mod states;
+#[cfg(test)]
 mod table;

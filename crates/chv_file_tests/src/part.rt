@@ -57,17 +57,17 @@ fn each_kind(alloc: Global) -> Result<Kinds, AllocError>
 }
 
 /// So many columns of a kind, one or two.
-pub fn columns(alloc: Global, scalar: Scalar, count: usize) -> Result<Kinds, AllocError>
+pub fn columns(alloc: Global, kind: Kind, count: usize) -> Result<Kinds, AllocError>
     requires some { 1 ≤ count }
     requires most { count ≤ 2 }
     ensures { IfOk result AreColumns }
 {
-    let kinds = [Kind::Plain(scalar); 2];
+    let kinds = [kind; 2];
     Ok(Kinds::from_slice(alloc, &kinds[..count])?)
 }
 
-// The file that has this body, of 104 bytes at most.
-fn framed<'a>(file: &'a mut [u8; 128], body: &[u8]) -> &'a [u8] {
+/// The file that has this body, of 104 bytes at most.
+pub fn framed<'a>(file: &'a mut [u8; 128], body: &[u8]) -> &'a [u8] {
     let len = body.len().min(104);
     file[..8].copy_from_slice(b"CHVPART1");
     file[8..16].copy_from_slice(&(len as u64).to_le_bytes());
@@ -104,8 +104,8 @@ fn is_encoded(alloc: Global, kinds: &Kinds, rows: &Block, file: &[u8]) -> bool
     }
 }
 
-// Whether a file reads as the rows with this text, and they are written as this file.
-fn is_kept(alloc: Global, kinds: &Kinds, file: &[u8], text: &[u8]) -> bool
+/// Whether a file reads as the rows with this text, and they are written as this file.
+pub fn is_kept(alloc: Global, kinds: &Kinds, file: &[u8], text: &[u8]) -> bool
     requires { AreColumns kinds.now }
 {
     match read(alloc, kinds, file) {
@@ -115,7 +115,7 @@ fn is_kept(alloc: Global, kinds: &Kinds, file: &[u8], text: &[u8]) -> bool
 }
 
 fn keeps_two_columns(alloc: Global) -> bool {
-    match columns(alloc, Scalar::UInt64, 2) {
+    match columns(alloc, Kind::Plain(Scalar::UInt64), 2) {
         Ok(kinds) => is_kept(alloc, &kinds, &TWO_COLUMNS, b"1\t10\n2\t20\n"),
         Err(_) => false,
     }
@@ -140,17 +140,18 @@ fn a_part_of_each_kind_reads_as_its_rows(rt: HostRuntime) {
 }
 
 // How many rows a file of one column has.
-fn count(alloc: Global, scalar: Scalar, file: &[u8]) -> Result<usize, PartFault> {
-    let kinds = columns(alloc, scalar, 1)?;
+fn count(alloc: Global, kind: Kind, file: &[u8]) -> Result<usize, PartFault> {
+    let kinds = columns(alloc, kind, 1)?;
     match read(alloc, &kinds, file) {
         Ok(rows) => Ok(rows.len()),
         Err(fault) => Err(fault),
     }
 }
 
-fn is_shapeless(alloc: Global, scalar: Scalar, body: &[u8]) -> bool {
+/// Whether a body is not that of rows of one column of a kind.
+pub fn is_shapeless(alloc: Global, kind: Kind, body: &[u8]) -> bool {
     let mut file = [0; 128];
-    count(alloc, scalar, framed(&mut file, body)) == Err(PartFault::Shape)
+    count(alloc, kind, framed(&mut file, body)) == Err(PartFault::Shape)
 }
 
 // Bodies off the grammar.
@@ -187,7 +188,7 @@ const SHAPELESS: &'static [(Scalar, &'static [u8])] = &[
 #[test]
 fn another_body_has_no_shape(rt: HostRuntime) {
     for case in SHAPELESS {
-        assert!(rt; is_shapeless(rt.alloc(), case.0, case.1));
+        assert!(rt; is_shapeless(rt.alloc(), Kind::Plain(case.0), case.1));
     }
 }
 
@@ -198,14 +199,14 @@ fn is_told(alloc: Global, at: usize) -> bool
 {
     let mut file = ONE_ROW;
     file[at] ^= 255;
-    let is_told = match count(alloc, Scalar::UInt64, &file) {
+    let is_told = match count(alloc, Kind::Plain(Scalar::UInt64), &file) {
         Err(PartFault::Shape) => at < 16,
         Err(PartFault::Hash { kept, found }) => {
             16 <= at && (kept == ONE_ROW_HASH) == (24 <= at) && (found == ONE_ROW_HASH) == (at < 24)
         }
         _ => false,
     };
-    is_told && count(alloc, Scalar::UInt64, &ONE_ROW[..at]) == Err(PartFault::Shape)
+    is_told && count(alloc, Kind::Plain(Scalar::UInt64), &ONE_ROW[..at]) == Err(PartFault::Shape)
 }
 
 #[test]

@@ -8,7 +8,7 @@ use crate::part::{columns, has_text};
 use chv_part::Damage;
 use chv_site::{Fails, FileId, MemSite};
 use chv_table::{Table, TableFault};
-use chv_types::{Block, Scalar};
+use chv_types::{Block, Kind, Scalar};
 use std::alloc::Global;
 
 // A window, five deliveries, what becomes of each, and what becomes of the same behind them, once the table is opened again.
@@ -67,7 +67,7 @@ fn an_id_counts_as_long_as_it_is_in_the_window(rt: HostRuntime) {
 
 // Whether rows of one column of numbers have this text.
 fn are_shown(alloc: Global, rows: &Block, text: &[u8]) -> bool {
-    match columns(alloc, Scalar::UInt64, 1) {
+    match columns(alloc, Kind::Plain(Scalar::UInt64), 1) {
         Ok(kinds) => has_text(alloc, &kinds, rows, text),
         Err(_) => false,
     }

@@ -1,4 +1,4 @@
-//! Tests of bytes, ids, values, blocks, windows, commits, normal forms and replies. It has no code of its own.
+//! Tests of bytes, ids, values, states, blocks, windows, commits, normal forms and replies. It has no code of its own.
 #![tactic(auto)]
 
 #[cfg(test)]
@@ -23,6 +23,8 @@ mod replays;
 mod replies;
 #[cfg(test)]
 mod squashing;
+#[cfg(test)]
+mod states;
 #[cfg(test)]
 mod texts;
 #[cfg(test)]
