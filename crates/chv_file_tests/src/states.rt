@@ -44,19 +44,35 @@ fn a_part_of_states_reads_as_its_rows(rt: HostRuntime) {
 // Bodies off the grammar.
 const SHAPELESS: &'static [(AggName, &'static [u8])] = &[
     // States of another function, and over values of another kind.
-    (AggName::Min, &[1, 0, 0, 0, 19, 1, 1, 0, 0, 0, 0, 0, 0, 0, 1, 5]),
-    (AggName::Min, &[1, 0, 0, 0, 18, 5, 1, 0, 0, 0, 0, 0, 0, 0, 1, 5]),
+    (
+        AggName::Min,
+        &[1, 0, 0, 0, 19, 1, 1, 0, 0, 0, 0, 0, 0, 0, 1, 5],
+    ),
+    (
+        AggName::Min,
+        &[1, 0, 0, 0, 18, 5, 1, 0, 0, 0, 0, 0, 0, 0, 1, 5],
+    ),
     // A tag of 2, and more states than bytes.
-    (AggName::Min, &[1, 0, 0, 0, 18, 1, 1, 0, 0, 0, 0, 0, 0, 0, 2, 5]),
-    (AggName::Min, &[1, 0, 0, 0, 18, 1, 2, 0, 0, 0, 0, 0, 0, 0, 0]),
+    (
+        AggName::Min,
+        &[1, 0, 0, 0, 18, 1, 1, 0, 0, 0, 0, 0, 0, 0, 2, 5],
+    ),
+    (
+        AggName::Min,
+        &[1, 0, 0, 0, 18, 1, 2, 0, 0, 0, 0, 0, 0, 0, 0],
+    ),
     // Values that fall, and more of them than there are bytes.
     (
         AggName::UniqExact,
-        &[1, 0, 0, 0, 20, 1, 1, 0, 0, 0, 0, 0, 0, 0, 2, 0, 0, 0, 0, 0, 0, 0, 5, 3],
+        &[
+            1, 0, 0, 0, 20, 1, 1, 0, 0, 0, 0, 0, 0, 0, 2, 0, 0, 0, 0, 0, 0, 0, 5, 3,
+        ],
     ),
     (
         AggName::UniqExact,
-        &[1, 0, 0, 0, 20, 1, 1, 0, 0, 0, 0, 0, 0, 0, 255, 255, 255, 255, 255, 255, 255, 255, 5],
+        &[
+            1, 0, 0, 0, 20, 1, 1, 0, 0, 0, 0, 0, 0, 0, 255, 255, 255, 255, 255, 255, 255, 255, 5,
+        ],
     ),
 ];
 

@@ -1,14 +1,10 @@
 -- How many bytes columns have at least.
-use Rattle.std.proofs.Common.{ℕ, ◌+◌, ◌*◌, ◌≤◌, List, [], ◌∷◌, length, true, false, Option, Some, None, sym, subst, arith, length-append}
+use Rattle.std.proofs.Common.{ℕ, ◌+◌, ◌*◌, ◌≤◌, List, [], ◌∷◌, length, Option, Some, None, sym, subst, arith, length-append}
 use Rattle.std.specs.List.{slice_get}
 use Rattle.chv_types.specs.declared.kind.Kind.{Kind}
 use Rattle.chv_types.specs.declared.kind.Kind.TheVariants as kind
-use Rattle.chv_types.specs.declared.kind.Scalar.{Scalar}
-use Rattle.chv_types.specs.declared.kind.Scalar.TheVariants as scalar
 use Rattle.chv_types.specs.declared.value.Value.{Value}
 use Rattle.chv_types.specs.declared.value.Value.TheVariants.{Whole, Truth, Text, State}
-use Rattle.chv_types.specs.Fits.{IsOfScalar}
-use Rattle.chv_agg.specs.Plain.{scalar_spelling}
 use Rattle.chv_agg.proofs.ReadingLemmas.{some_bytes}
 use Rattle.chv_agg.proofs.StateByteLemmas.{some_state}
 use Rattle.chv_block.specs.Spellings.{IsOf, value_spelling, AllAreOf}

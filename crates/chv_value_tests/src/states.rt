@@ -10,7 +10,11 @@ type Case = (AggName, Scalar, &'static [u8]);
 
 // A state of each function, at the bounds of kinds of each sort.
 const SPELLED: &'static [Case] = &[
-    (AggName::Count, Scalar::UInt64, &[255, 255, 255, 255, 255, 255, 255, 255]),
+    (
+        AggName::Count,
+        Scalar::UInt64,
+        &[255, 255, 255, 255, 255, 255, 255, 255],
+    ),
     // 300, and the least number with sign.
     (AggName::Sum, Scalar::UInt8, &[44, 1, 0, 0, 0, 0, 0, 0]),
     (AggName::Sum, Scalar::Int16, &[0, 0, 0, 0, 0, 0, 0, 128]),
@@ -21,9 +25,21 @@ const SPELLED: &'static [Case] = &[
     (AggName::Max, Scalar::Bool, &[1, 1]),
     (AggName::Max, Scalar::Text, &[1, 2, 0, 0, 0, b'o', b'k']),
     // 0 and 255; -1 and 1; the empty text and `a`.
-    (AggName::UniqExact, Scalar::UInt8, &[2, 0, 0, 0, 0, 0, 0, 0, 0, 255]),
-    (AggName::UniqExact, Scalar::Int8, &[2, 0, 0, 0, 0, 0, 0, 0, 255, 1]),
-    (AggName::UniqExact, Scalar::Text, &[2, 0, 0, 0, 0, 0, 0, 0, 0, 0, 0, 0, 1, 0, 0, 0, b'a']),
+    (
+        AggName::UniqExact,
+        Scalar::UInt8,
+        &[2, 0, 0, 0, 0, 0, 0, 0, 0, 255],
+    ),
+    (
+        AggName::UniqExact,
+        Scalar::Int8,
+        &[2, 0, 0, 0, 0, 0, 0, 0, 255, 1],
+    ),
+    (
+        AggName::UniqExact,
+        Scalar::Text,
+        &[2, 0, 0, 0, 0, 0, 0, 0, 0, 0, 0, 0, 1, 0, 0, 0, b'a'],
+    ),
 ];
 
 // Bytes off the grammar.
@@ -34,17 +50,42 @@ const BROKEN: &'static [Case] = &[
     (AggName::Min, Scalar::UInt16, &[1, 5]),
     (AggName::Max, Scalar::Bool, &[1, 2]),
     // Values that fall, a value that comes twice, and numbers whose bytes rise.
-    (AggName::UniqExact, Scalar::UInt8, &[2, 0, 0, 0, 0, 0, 0, 0, 5, 3]),
-    (AggName::UniqExact, Scalar::UInt8, &[2, 0, 0, 0, 0, 0, 0, 0, 5, 5]),
-    (AggName::UniqExact, Scalar::Int8, &[2, 0, 0, 0, 0, 0, 0, 0, 1, 255]),
+    (
+        AggName::UniqExact,
+        Scalar::UInt8,
+        &[2, 0, 0, 0, 0, 0, 0, 0, 5, 3],
+    ),
+    (
+        AggName::UniqExact,
+        Scalar::UInt8,
+        &[2, 0, 0, 0, 0, 0, 0, 0, 5, 5],
+    ),
+    (
+        AggName::UniqExact,
+        Scalar::Int8,
+        &[2, 0, 0, 0, 0, 0, 0, 0, 1, 255],
+    ),
     // More values than there are bytes.
-    (AggName::UniqExact, Scalar::UInt8, &[3, 0, 0, 0, 0, 0, 0, 0, 5, 6]),
-    (AggName::UniqExact, Scalar::UInt8, &[255, 255, 255, 255, 255, 255, 255, 255, 5]),
+    (
+        AggName::UniqExact,
+        Scalar::UInt8,
+        &[3, 0, 0, 0, 0, 0, 0, 0, 5, 6],
+    ),
+    (
+        AggName::UniqExact,
+        Scalar::UInt8,
+        &[255, 255, 255, 255, 255, 255, 255, 255, 5],
+    ),
 ];
 
 // The functions over a kind.
-const FUNCTIONS: [AggName; 5] =
-    [AggName::Count, AggName::Sum, AggName::Min, AggName::Max, AggName::UniqExact];
+const FUNCTIONS: [AggName; 5] = [
+    AggName::Count,
+    AggName::Sum,
+    AggName::Min,
+    AggName::Max,
+    AggName::UniqExact,
+];
 
 // The state that bytes begin with, put again.
 fn again(alloc: Global, case: &Case) -> Result<Option<Bytes>, AllocError> {
