@@ -114,3 +114,8 @@ FitsState agg.Min arg (Least found) = FitsFound arg found
 FitsState agg.Max arg (Greatest found) = FitsFound arg found
 FitsState agg.UniqExact arg (Uniq values) = All (IsOfScalar arg) values × Rises value_cmp values × (length values < 2 ^ 64)
 FitsState agg arg other = ⊥
+
+-- a state is one of the function over values of the kind, however many different values it has
+abbrev pub IsOver : AggName → Scalar → AnyAgg → Type 0
+IsOver agg.UniqExact arg (Uniq values) = All (IsOfScalar arg) values × Rises value_cmp values
+IsOver agg arg state = FitsState agg arg state

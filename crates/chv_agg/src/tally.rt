@@ -1,7 +1,7 @@
 // States that are worked on.
 ghost use Rattle.std.specs.Prelude.{◌≡◌, IfOk, OnOk};
 ghost use Rattle.chv_agg.specs.StateBytes.{state_bytes, state_in};
-ghost use Rattle.chv_agg.specs.States.{FitsState, join, one_like, unit_of, value_of};
+ghost use Rattle.chv_agg.specs.States.{FitsState, IsOver, join, one_like, unit_of, value_of};
 ghost use Rattle.chv_types.specs.Values.{seen_value};
 
 use crate::{AnyAgg, any_unit};
@@ -47,7 +47,8 @@ impl Tally {
         agg: AggName,
         arg: Scalar,
     ) -> Result<(), AllocError>
-        ensures { OnOk result (self.new ≡ join self.old (state_in agg arg bytes.now)) }
+        ensures merged { OnOk result (self.new ≡ join self.old (state_in agg arg bytes.now)) }
+        ensures fits { OnOk result (FitsState agg arg (state_in agg arg bytes.now)) }
     {
         Err(AllocError)
     }
@@ -61,7 +62,7 @@ impl Tally {
 
     /// The state over values of a kind, as a value.
     pub fn into_state(self, alloc: Global, arg: Scalar) -> Result<Value, AllocError>
-        requires fits { (agg : AggName) × FitsState agg arg self }
+        requires fits { (agg : AggName) × IsOver agg arg self }
         ensures { IfOk result (λ value. value ≡ Value.State (state_bytes arg self)) }
     {
         Err(AllocError)

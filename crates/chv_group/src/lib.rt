@@ -3,6 +3,10 @@
 
 mod call;
 mod grouping;
+mod key_bytes;
+mod key_group;
+mod key_names;
+mod tallies;
 
 pub use call::{AggCall, AggCalls, Keyed, KeyedRows};
 pub use grouping::{Grouping, group};
