@@ -1,10 +1,11 @@
 -- States stay those of their function.
-use Rattle.std.proofs.Common.{◌≡◌, ℕ, ℤ, pos, negsuc, ◌+◌, ◌+ℤ◌, ◌%◌, ◌^◌, ◌<◌, ◌≤ℤ◌, neg_ℤ, Bool, true, false, List, [], ◌∷◌, ◌++◌, map, get_or, if◌then◌else◌, Option, None, Some, Less, Equal, Greater, refl, sym, ap, ◌∙◌, ◌⊎◌, inl, inr, arith}
+use Rattle.std.proofs.Common.{◌≡◌, ℕ, ℤ, pos, negsuc, ◌+◌, ◌+ℤ◌, ◌%◌, ◌^◌, ◌<◌, ◌≤ℤ◌, neg_ℤ, Bool, true, false, List, [], ◌∷◌, ◌++◌, map, get_or, if◌then◌else◌, Option, None, Some, Less, Equal, Greater, refl, sym, ap, subst, Result, Ok, Err, OnOk, ◌∙◌, ◌⊎◌, inl, inr, arith}
 use Rattle.std.proofs.lemmas.Int.{ints, SFits-int_wrap}
 use Rattle.std.proofs.lemmas.List.Elements.{All-nil, All-cons, All-append, All-contains, Contains-get_or}
 use Rattle.std.specs.Int.{cast_unsigned, int_wrap, w64}
 use Rattle.std.specs.Int.RustNames.{FitsSigned}
 use Rattle.std.specs.List.{All}
+use Rattle.chv_agg.specs.StateBytes.{state_in}
 use Rattle.chv_agg.specs.States.{FitsFound, FitsState, IsOver, either_by, higher, is_signed, join, lower, one_like, unit_of, unsigned_of}
 use Rattle.chv_agg.specs.declared.any_agg.AnyAgg.{AnyAgg}
 use Rattle.chv_agg.specs.declared.any_agg.AnyAgg.TheVariants.{Count, SumU, SumI, Least, Greatest, Uniq}
@@ -12,6 +13,7 @@ use Rattle.chv_types.proofs.MemberLemmas.{members-Rises, members-HaveSame}
 use Rattle.chv_types.specs.Fits.{IsOfScalar}
 use Rattle.chv_types.specs.Members.{by_order, members, Rises}
 use Rattle.chv_group.specs.Groups.{TakesValue}
+use Rattle.chv_group.specs.declared.call.AggCall.{AggCall}
 use Rattle.chv_types.specs.Order.{number, value_cmp}
 use Rattle.chv_types.specs.OrderLaws.{value_cmp_total, value_cmp-IsAntisymmetric}
 use Rattle.chv_types.specs.declared.aggregate.AggName.{AggName}
@@ -181,3 +183,22 @@ IsOver-from_fits agg.UniqExact arg (SumI n) h = absurd h
 IsOver-from_fits agg.UniqExact arg (Least found) h = absurd h
 IsOver-from_fits agg.UniqExact arg (Greatest found) h = absurd h
 IsOver-from_fits agg.UniqExact arg (Uniq values) h = (h.0, h.1)
+
+-- a state that takes one value more, or the values of a state by its bytes, stays one of its function
+pub add-IsOver : (call : AggCall) (old new : AnyAgg) (value : Value) → IsOver call.agg call.arg old → TakesValue call.agg call.arg value
+    → new ≡ join old (one_like old value) → IsOver call.agg call.arg new
+add-IsOver call old new value over takes is =
+    let one : IsOver call.agg call.arg (one_like old value) =
+    subst (IsOver call.agg call.arg) (sym (one_like-IsOver call.agg call.arg old value over)) (one_like_unit-IsOver call.agg call.arg value takes) in
+    subst (IsOver call.agg call.arg) (sym is) (join-IsOver call.agg call.arg old (one_like old value) over one)
+
+pub merge-IsOver : (call : AggCall) (old new : AnyAgg) (bytes : List ℕ) → IsOver call.agg call.arg old
+    → new ≡ join old (state_in call.agg call.arg bytes) → FitsState call.agg call.arg (state_in call.agg call.arg bytes) → IsOver call.agg call.arg new
+merge-IsOver call old new bytes over is fits =
+    subst (IsOver call.agg call.arg) (sym is)
+    (join-IsOver call.agg call.arg old (state_in call.agg call.arg bytes) over (IsOver-from_fits call.agg call.arg (state_in call.agg call.arg bytes) fits))
+
+-- what follows from two facts of a success
+pub on_both : {T E P Q R : Type 0} (r : Result T E) → OnOk r P → OnOk r Q → (P → Q → R) → OnOk r R
+on_both (Ok t) p q f = f p q
+on_both (Err e) p q f = tt

@@ -1,8 +1,8 @@
 // Groups.
-ghost use Rattle.std.specs.Prelude.{◌≡◌, ◌++◌, ◌∷◌, [], List, ℕ, map, IfOk, OnOk};
+ghost use Rattle.std.specs.Prelude.{◌≡◌, ◌++◌, ◌∷◌, ◌&&◌, [], List, ℕ, map, IfOk, OnOk};
 ghost use Rattle.std.specs.List.{All};
-ghost use Rattle.chv_group.specs.Groups.{TakesArguments, grouped};
-ghost use Rattle.chv_group.specs.Takings.{AreOf, HasTaken, IsSound};
+ghost use Rattle.chv_group.specs.Groups.{TakesArguments, grouped, is_empty};
+ghost use Rattle.chv_group.specs.Takings.{AreOf, HasTaken, HaveStates, IsSound};
 ghost use Rattle.chv_group.specs.Tallies.{AreOver, fed, units, values_of};
 ghost use Rattle.chv_group.specs.declared.call.Keyed.{Keyed as Input};
 ghost use Rattle.chv_types.specs.Values.{seen_value};
@@ -11,7 +11,7 @@ use crate::key_bytes::put_key;
 use crate::key_group::{KeyGroup, rows_of, sorted};
 use crate::key_names::KeyNames;
 use crate::tallies::Tallies;
-use crate::{AggCall, AggCalls, KeyedRows};
+use crate::{AggCall, AggCalls, Keyed, KeyedRows};
 use chv_types::{Block, Row, Seen};
 use std::alloc::{AllocError, Global};
 use std::marker::Model;
@@ -48,7 +48,34 @@ pub fn group(
     requires takes { All (λ input. TakesArguments calls.now input.args) inputs.now }
     ensures { IfOk result (λ rows. rows ≡ grouped calls.now inputs.now always) }
 {
-    Err(AllocError)
+    let calls = AggCalls::from_slice(alloc, calls.as_slice())?;
+    let mut grouping = Grouping::new(alloc, calls)?;
+    for input in inputs.as_slice() {
+        feed_input(alloc, &mut grouping, input)?;
+    }
+    grouping.finish(alloc, always)
+}
+
+// Takes an input.
+fn feed_input(alloc: Global, grouping: &mut Grouping, input: &Keyed) -> Result<(), AllocError>
+    requires takes { TakesArguments grouping.old.calls input.now.args }
+    ensures calls { grouping.new.calls ≡ grouping.old.calls }
+    ensures taken { OnOk result ((taken : List Input) → HasTaken grouping.old taken → HasTaken grouping.new (taken ++ input.now ∷ [])) }
+{
+    let key = seen_row(alloc, &input.key)?;
+    let args = seen_row(alloc, &input.args)?;
+    grouping.feed(alloc, key.as_slice(), args.as_slice())
+}
+
+// The values of a row, borrowed.
+fn seen_row<'a>(alloc: Global, row: &'a Row) -> Result<Vec<Seen<'a>>, AllocError>
+    ensures { IfOk result (λ seen. map seen_value seen.items ≡ row.now) }
+{
+    let mut seen = Vec::with_capacity(alloc, row.len())?;
+    for value in row.as_slice() {
+        seen.push(value.seen())?;
+    }
+    Ok(seen)
 }
 
 impl Grouping {
@@ -92,10 +119,7 @@ impl Grouping {
         ensures { IfOk result (λ rows. (taken : List Input) → HasTaken self taken → rows ≡ grouped self.calls taken always) }
     {
         let Grouping { calls, groups, .. } = self;
-        if always && groups.is_empty() {
-            return row_of_none(alloc, calls.as_slice());
-        }
-        rows_of(alloc, sorted(groups), calls.as_slice())
+        finished(alloc, calls.as_slice(), groups, always)
     }
 }
 
@@ -141,6 +165,29 @@ fn first_of(
     let mut group = KeyGroup::new(alloc, key, calls)?;
     group.take(alloc, calls, args)?;
     Ok(group)
+}
+
+// The rows of groups in the order of their keys; of none, where there is always a row, that of no inputs.
+fn finished(
+    alloc: Global,
+    calls: &[AggCall],
+    groups: Vec<KeyGroup>,
+    always: bool,
+) -> Result<Block, AllocError>
+    requires over { HaveStates calls.now groups.items }
+    ensures { IfOk result (λ rows. (names : List (List ℕ)) (taken : List Input) → AreOf calls.now names groups.items taken → rows ≡ grouped calls.now taken always) }
+{
+    if is_lone(always, groups.as_slice()) {
+        return row_of_none(alloc, calls);
+    }
+    rows_of(alloc, sorted(groups), calls)
+}
+
+// The row of no inputs is the one row.
+fn is_lone(always: bool, groups: &[KeyGroup]) -> bool
+    ensures { result ≡ (always && is_empty groups.now) }
+{
+    always && groups.is_empty()
 }
 
 // The row of no inputs.
