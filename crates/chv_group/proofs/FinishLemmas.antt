@@ -7,19 +7,19 @@ use Rattle.std.proofs.lemmas.List.MinMax.{ranks_by}
 use Rattle.std.proofs.lemmas.List.Sorted.{All-permutation, IsPermutation-map}
 use Rattle.std.proofs.lemmas.Map.Keys.{IsDistinct-head, IsDistinct-tail, IsDistinct-IsPermutation}
 use Rattle.std.specs.Cmp.{IsStrictWeakOrder}
-use Rattle.std.specs.List.{All, Contains, IsDistinct}
+use Rattle.std.specs.List.{All, IsDistinct}
 use Rattle.std.specs.List.Sorted.{IsPermutation, IsSortedBy}
 use Rattle.std.specs.Ordering.{eq_by_cmp, is_eq, is_lt, ordering_reverse}
 use Rattle.chv_group.proofs.TallyLemmas.{states_over-none, values_of-states_over}
-use Rattle.chv_group.specs.Groups.{grouped, inputs_of, is_empty, results, row_for}
+use Rattle.chv_group.specs.Groups.{grouped, inputs_of, is_empty, row_for}
 use Rattle.chv_group.specs.Takings.{AreOf, IsOverInputs, group_below, group_keys, group_row, input_keys}
-use Rattle.chv_group.specs.Tallies.{states_over, units, values_of}
+use Rattle.chv_group.specs.Tallies.{units, values_of}
 use Rattle.chv_group.specs.declared.call.AggCall.{AggCall}
 use Rattle.chv_group.specs.declared.call.Keyed.{Keyed}
 use Rattle.chv_group.specs.declared.key_group.KeyGroup.{KeyGroup}
 use Rattle.chv_types.proofs.MemberLemmas.{HaveSame-permuted, HaveSame-trans, members-unique}
 use Rattle.chv_types.proofs.SortingLemmas.{Ascending, Ascending-from_sorted}
-use Rattle.chv_types.specs.Members.{HaveSame, Rises, members}
+use Rattle.chv_types.specs.Members.{Rises, members}
 use Rattle.chv_types.specs.Order.{row_cmp}
 use Rattle.chv_types.specs.OrderLaws.{row_cmp_total, row_cmp-IsAntisymmetric}
 use Rattle.chv_types.specs.declared.value.Value.{Value}
@@ -27,10 +27,10 @@ use Rattle.chv_types.specs.declared.value.Value.{Value}
 -- of two keys that differ, one that is not above the other is below it
 below : (a b : List Value) → is_lt (row_cmp b a) ≡ false → eq_by_cmp row_cmp a b ≡ false → row_cmp a b ≡ Less
 below a b = elim (row_cmp a b) as (λ o. row_cmp a b ≡ o → is_lt (row_cmp b a) ≡ false → is_eq o ≡ false → o ≡ Less) [
-    | Less ↦ λ e f g. refl
-    | Equal ↦ λ e f g. cc
-    | Greater ↦ λ e f g. let back : is_lt (row_cmp b a) ≡ true = ap is_lt (row_cmp_total.antisymm b a ∙ ap ordering_reverse e) in cc
-  ] refl
+  | Less ↦ λ e f g. refl
+  | Equal ↦ λ e f g. cc
+  | Greater ↦ λ e f g. let back : is_lt (row_cmp b a) ≡ true = ap is_lt (row_cmp_total.antisymm b a ∙ ap ordering_reverse e) in cc
+] refl
 
 pub group_below-IsStrictWeakOrder : IsStrictWeakOrder group_below
 group_below-IsStrictWeakOrder = ranks_by row_cmp_total (λ (group : KeyGroup). group.key)

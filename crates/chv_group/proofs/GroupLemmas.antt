@@ -1,12 +1,12 @@
 -- Groups with one input more.
-use Rattle.std.proofs.Common.{◌≡◌, ℕ, zero, suc, ◌+◌, ◌<◌, ◌||◌, Bool, true, false, cond, Less, Greater, List, [], ◌∷◌, ◌++◌, length, map, set, get_or, drop, Equal, Option, None, Some, refl, sym, ap, subst, ◌∙◌, arith, ◌⊎◌, inl, inr, is_some}
+use Rattle.std.proofs.Common.{◌≡◌, ℕ, zero, suc, ◌<◌, ◌||◌, Bool, true, false, Less, Greater, List, [], ◌∷◌, ◌++◌, length, map, set, get_or, Equal, None, Some, refl, sym, ap, subst, ◌∙◌, arith, ◌⊎◌, inl, inr, is_some}
 use Rattle.std.proofs.lemmas.Cmp.{eq_by_cmp_equiv, tied_itself, nat_list_eq_equiv}
 use Rattle.std.proofs.lemmas.List.{append-nil, get_or-map, length-map, map_push, map-set, set-get_or}
-use Rattle.std.proofs.lemmas.List.Elements.{All-from_recursion, All-get_or, All-head, All-tail, All-cons, All-push, All-map, All-weaker, All-contains, Contains-get_or, Contains-append_left, Contains-push_cases, filter-append}
+use Rattle.std.proofs.lemmas.List.Elements.{All-from_recursion, All-get_or, All-head, All-tail, All-cons, All-push, All-contains, Contains-get_or, Contains-append_left, Contains-push_cases, filter-append}
 use Rattle.std.proofs.lemmas.List.Quantifiers.{position-Some}
 use Rattle.std.proofs.lemmas.Map.Keys.{IsDistinct-head, IsDistinct-tail, IsDistinct-push}
 use Rattle.std.proofs.lemmas.Slice.Eq.{bytes_eq-Decides}
-use Rattle.std.specs.List.{All, Contains, IsDistinct, filter, list_any, position}
+use Rattle.std.specs.List.{All, Contains, IsDistinct, list_any}
 use Rattle.std.specs.Ordering.{eq_by_cmp, is_eq}
 use Rattle.std.specs.Str.{bytes_eq}
 use Rattle.std.specs.declared.cmp.Ordering.{Ordering}
@@ -135,11 +135,11 @@ unknown (other ∷ keys) key none =
   where
     apart : bytes_eq (key_bytes other) (key_bytes key) ≡ false → same_row key other ≡ false
     apart differ = elim (same_row key other) as (λ b. same_row key other ≡ b → b ≡ false) [
-        | true ↦ λ e.
-            let same : bytes_eq (key_bytes other) (key_bytes key) ≡ true =
-            ap (λ (k : List Value). bytes_eq (key_bytes other) (key_bytes k)) (same_row-true key other e) ∙ nat_list_eq_equiv.refl (key_bytes other) in cc
-        | false ↦ λ e. refl
-      ] refl
+      | true ↦ λ e.
+          let same : bytes_eq (key_bytes other) (key_bytes key) ≡ true =
+          ap (λ (k : List Value). bytes_eq (key_bytes other) (key_bytes k)) (same_row-true key other e) ∙ nat_list_eq_equiv.refl (key_bytes other) in cc
+      | false ↦ λ e. refl
+    ] refl
 
 list_any-none : (key : List Value) (keys : List (List Value)) → All (λ (other : List Value). same_row key other ≡ false) keys → list_any (same_row key) keys ≡ false
 list_any-none key [] all = refl

@@ -1,5 +1,5 @@
 -- States stay those of their function.
-use Rattle.std.proofs.Common.{◌≡◌, ℕ, ℤ, pos, negsuc, ◌+◌, ◌+ℤ◌, ◌%◌, ◌^◌, ◌<◌, ◌≤ℤ◌, neg_ℤ, Bool, true, false, List, [], ◌∷◌, ◌++◌, map, get_or, if◌then◌else◌, Option, None, Some, Less, Equal, Greater, refl, sym, ap, subst, Result, Ok, Err, OnOk, ◌∙◌, ◌⊎◌, inl, inr, arith}
+use Rattle.std.proofs.Common.{◌≡◌, ℕ, ℤ, pos, negsuc, ◌+◌, ◌+ℤ◌, ◌%◌, ◌^◌, ◌<◌, true, false, List, [], ◌++◌, get_or, if◌then◌else◌, Option, None, Some, Less, Equal, Greater, refl, sym, subst, Result, Ok, Err, OnOk, ◌∙◌, ◌⊎◌, inl, inr, arith}
 use Rattle.std.proofs.lemmas.Int.{ints, SFits-int_wrap}
 use Rattle.std.proofs.lemmas.List.Elements.{All-nil, All-cons, All-append, All-contains, Contains-get_or}
 use Rattle.std.specs.Int.{cast_unsigned, int_wrap, w64}
@@ -19,7 +19,6 @@ use Rattle.chv_types.specs.OrderLaws.{value_cmp_total, value_cmp-IsAntisymmetric
 use Rattle.chv_types.specs.declared.aggregate.AggName.{AggName}
 use Rattle.chv_types.specs.declared.aggregate.AggName.TheVariants as agg
 use Rattle.chv_types.specs.declared.kind.Scalar.{Scalar}
-use Rattle.chv_types.specs.declared.kind.Scalar.TheVariants as scalar
 use Rattle.chv_types.specs.declared.value.Value.{Value}
 
 -- a state of a count is a number
@@ -125,8 +124,10 @@ join-IsOver agg.Max arg a b h k =
     rw (p.1, q.1) (either_higher arg p.0 q.0 p.2 q.2)
 join-IsOver agg.UniqExact arg a b h k =
     let p = uniq_form arg a h in let q = uniq_form arg b k in
-    rw (p.1, q.1) (members_fit arg (p.0 ++ q.0) (All-append (IsOfScalar arg) p.0 q.0 p.2.0 q.2.0),
-    members-Rises value_cmp value_cmp_total value_cmp-IsAntisymmetric (p.0 ++ q.0))
+    rw (p.1, q.1) (
+      members_fit arg (p.0 ++ q.0) (All-append (IsOfScalar arg) p.0 q.0 p.2.0 q.2.0),
+      members-Rises value_cmp value_cmp_total value_cmp-IsAntisymmetric (p.0 ++ q.0),
+    )
 
 sum_like : (arg : Scalar) (value : Value) (state : AnyAgg)
     → ((n : ℕ) × (state ≡ SumU n) × (is_signed arg ≡ false) × (n < 2 ^ 64)) ⊎ ((n : ℤ) × (state ≡ SumI n) × (is_signed arg ≡ true))
@@ -145,15 +146,15 @@ one_like-IsOver agg.UniqExact arg state value h = rw (uniq_form arg state h).1 r
 
 sum_unit : (arg : Scalar) → IsOver agg.Sum arg (unit_of agg.Sum arg)
 sum_unit arg = elim (is_signed arg) as (λ b. is_signed arg ≡ b → IsOver agg.Sum arg (if b then SumI (pos 0) else SumU 0)) [
-    | true ↦ λ e. (e, omega (arith, ints), omega (arith, ints))
-    | false ↦ λ e. (e, omega arith)
-  ] refl
+  | true ↦ λ e. (e, omega (arith, ints), omega (arith, ints))
+  | false ↦ λ e. (e, omega arith)
+] refl
 
 sum_one : (arg : Scalar) (value : Value) → IsOver agg.Sum arg (one_like (unit_of agg.Sum arg) value)
 sum_one arg value = elim (is_signed arg) as (λ b. is_signed arg ≡ b → IsOver agg.Sum arg (one_like (if b then SumI (pos 0) else SumU 0) value)) [
-    | true ↦ λ e. signed_over arg (number value) e
-    | false ↦ λ e. unsigned_over arg (unsigned_of (number value)) e (unsigned_below (number value))
-  ] refl
+  | true ↦ λ e. signed_over arg (number value) e
+  | false ↦ λ e. unsigned_over arg (unsigned_of (number value)) e (unsigned_below (number value))
+] refl
 
 -- the state of no values is one of its function
 pub unit_of-IsOver : (agg : AggName) (arg : Scalar) → IsOver agg arg (unit_of agg arg)

@@ -1,5 +1,5 @@
 -- The states of calls, one argument of each after the other.
-use Rattle.std.proofs.Common.{◌≡◌, ℕ, zero, suc, pos, ◌+◌, ◌<◌, List, [], ◌∷◌, ◌++◌, length, map, drop, take, set, get_or, slice_get, refl, sym, ap, ap₂, subst, ◌≤◌, ◌∙◌, add-one, arith}
+use Rattle.std.proofs.Common.{◌≡◌, ℕ, zero, suc, pos, ◌+◌, ◌<◌, List, [], ◌∷◌, ◌++◌, length, map, drop, take, set, get_or, refl, sym, ap, ap₂, subst, ◌≤◌, ◌∙◌, arith}
 use Rattle.std.proofs.lemmas.List.{append-nil, append_assoc, drop_all, drop_more, get_or-map, length-map, take_all, drop-set-lt, length-drop, map-append, take_more_set}
 use Rattle.std.proofs.lemmas.List.Sums.{fold-append}
 use Rattle.std.proofs.lemmas.Option.{unwrap_or-slice_get}
@@ -61,8 +61,8 @@ pub fed-step : (calls : List AggCall) (states : List AnyAgg) (values : List Valu
     → place < length calls → place < length states → place < length values
     → take place states ++ fed (drop place calls) (drop place states) (drop place values) ≡ whole
     → take (place + 1) (set states place (join (get_or states place s) (input_state (get_or calls place c) (get_or values place v))))
-        ++ fed (drop (place + 1) calls) (drop (place + 1) (set states place (join (get_or states place s) (input_state (get_or calls place c) (get_or values place v))))) (drop (place + 1) values)
-      ≡ whole
+    ++ fed (drop (place + 1) calls) (drop (place + 1) (set states place (join (get_or states place s) (input_state (get_or calls place c) (get_or values place v))))) (drop (place + 1) values)
+    ≡ whole
 fed-step calls states values place c s v whole p q r so_far =
     let new : AnyAgg = join (get_or states place s) (input_state (get_or calls place c) (get_or values place v)) in
     let before : take place states ++ (new ∷ fed (drop (place + 1) calls) (drop (place + 1) states) (drop (place + 1) values)) ≡ whole =
@@ -80,8 +80,12 @@ fed-states_over (call ∷ calls) place inputs input (value ∷ values) here take
     let argument : argument_at place input ≡ value = unwrap_or-slice_get input.args place (Whole (pos 0)) ∙ ap (λ (l : List Value). get_or l 0 value) parts in
     let rest : drop (place + 1) input.args ≡ values = ap (λ (l : List Value). drop 1 l) parts in
     let first : join (call_state call (map (argument_at place) inputs)) (input_state call value) ≡ call_state call (map (argument_at place) (inputs ++ input ∷ [])) =
-    rw (map-append (argument_at place) inputs (input ∷ []), map-append (input_state call) (map (argument_at place) inputs) (argument_at place input ∷ []),
-    fold-append join (unit_of call.agg call.arg) (map (input_state call) (map (argument_at place) inputs)) (input_state call (argument_at place input) ∷ []), argument) refl in
+    rw (
+      map-append (argument_at place) inputs (input ∷ []),
+      map-append (input_state call) (map (argument_at place) inputs) (argument_at place input ∷ []),
+      fold-append join (unit_of call.agg call.arg) (map (input_state call) (map (argument_at place) inputs)) (input_state call (argument_at place input) ∷ []),
+      argument,
+    ) refl in
     ap₂ (λ (t : AnyAgg) (ts : List AnyAgg). t ∷ ts) first (fed-states_over calls (place + 1) inputs input values rest takes.1)
 
 -- the states over no inputs are those of no values

@@ -2,7 +2,6 @@
 use Rattle.std.specs.Prelude.{◌≡◌, ◌++◌, ℕ, Bool, List, map, length}
 use Rattle.std.specs.List.{All, IsDistinct}
 use Rattle.std.specs.Ordering.{eq_by_cmp, is_lt}
-use Rattle.chv_agg.specs.declared.any_agg.AnyAgg.{AnyAgg}
 use Rattle.chv_group.specs.Groups.{inputs_of}
 use Rattle.chv_group.specs.KeyBytes.{IsHeld, key_bytes}
 use Rattle.chv_group.specs.Tallies.{AreOver, states_over, values_of}

@@ -106,7 +106,15 @@ impl Grouping {
     {
         self.scratch.clear();
         let calls = self.calls.as_slice();
-        let fed = feed_groups(alloc, calls, &mut self.names, &mut self.groups, &mut self.scratch, key, args);
+        let fed = feed_groups(
+            alloc,
+            calls,
+            &mut self.names,
+            &mut self.groups,
+            &mut self.scratch,
+            key,
+            args,
+        );
         if fed.is_err() {
             self.names.clear();
             self.groups.clear();

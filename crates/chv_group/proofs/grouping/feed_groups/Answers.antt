@@ -1,10 +1,8 @@
-use Rattle.std.proofs.Common.{◌≡◌, ◌++◌, ◌∷◌, ◌∙◌, [], List, ℕ, map, None, Some, get_or, ap, sym, subst}
+use Rattle.std.proofs.Common.{◌≡◌, ◌++◌, ◌∷◌, ◌∙◌, [], List, ℕ, map, None, Some, get_or, ap, sym}
 use Rattle.std.proofs.lemmas.Result.{on_ok_weaker}
 use Rattle.chv_group.proofs.GroupLemmas.{AreOf-known, AreOf-new}
 use Rattle.chv_group.specs.KeyBytes.{key_bytes}
-use Rattle.chv_group.specs.Takings.{AreOf}
 use Rattle.chv_group.specs.Tallies.{fed}
-use Rattle.chv_group.specs.declared.call.Keyed.{Keyed}
 use Rattle.chv_group.specs.declared.key_group.KeyGroup.{KeyGroup}
 use Rattle.chv_types.specs.Names.{place_of}
 use Rattle.chv_types.specs.Values.{seen_value}

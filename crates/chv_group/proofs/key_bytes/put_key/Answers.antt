@@ -1,4 +1,3 @@
-use Rattle.std.proofs.Common.{◌≡◌}
 use Rattle.chv_group.proofs.KeyBytesLemmas.{put-step, held-step}
 use Rattle.chv_group.proofs.key_bytes.put_key.Goals as goal
 

@@ -1,4 +1,3 @@
-use Rattle.std.proofs.Common.{◌≡◌}
 use Rattle.chv_group.proofs.grouping.Grouping.feed.Goals as goal
 
 pub returns-else-is_err-clause-taken : goal.returns-else-is_err-clause-taken

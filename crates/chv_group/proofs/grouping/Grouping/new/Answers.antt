@@ -1,4 +1,3 @@
-use Rattle.std.proofs.Common.{◌≡◌, [], List, sym, refl, subst, arith}
 use Rattle.chv_group.proofs.GroupLemmas.{AreOf-nothing}
 use Rattle.chv_group.proofs.grouping.Grouping.new.Goals as goal
 

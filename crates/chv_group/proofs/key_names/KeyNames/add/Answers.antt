@@ -1,4 +1,4 @@
-use Rattle.std.proofs.Common.{◌≡◌, ◌∙◌, ◌++◌, ◌∷◌, [], List, ℕ, None, sym, ap}
+use Rattle.std.proofs.Common.{◌≡◌, ◌∙◌, ◌++◌, ◌∷◌, [], List, ℕ, None, ap}
 use Rattle.chv_group.proofs.KeyNameLemmas.{texts_of-insert_key}
 use Rattle.chv_group.specs.KeyBytes.{texts_of}
 use Rattle.chv_types.specs.Names.{place_of}
