@@ -1,2 +1,4 @@
 pub mod Groups
+pub mod KeyBytes
 pub mod Takings
+pub mod Tallies

@@ -3,6 +3,12 @@
 
 mod call;
 mod grouping;
+mod key_bytes;
+mod key_group;
+mod key_names;
+mod laws;
+mod tallies;
 
 pub use call::{AggCall, AggCalls, Keyed, KeyedRows};
 pub use grouping::{Grouping, group};
+pub use laws::law_groups;

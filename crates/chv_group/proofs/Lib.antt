@@ -1,0 +1,6 @@
+pub mod FinishLemmas
+pub mod GroupLemmas
+pub mod KeyBytesLemmas
+pub mod KeyNameLemmas
+pub mod OverLemmas
+pub mod TallyLemmas

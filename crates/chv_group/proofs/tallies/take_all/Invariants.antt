@@ -1,0 +1,12 @@
+use Rattle.std.proofs.Common.{◌≡◌, ◌++◌, drop, length, map, take}
+use Rattle.chv_group.specs.Tallies.{AreOver, fed}
+use Rattle.chv_types.specs.Values.{seen_value}
+use Rattle.chv_group.proofs.tallies.take_all.Given as goal
+
+abbrev pub invariant-loop-place : goal.invariant-loop-place
+invariant-loop-place l = record {
+  so_far : take l.place l.tallies.items ++ fed (drop l.place l.calls) (drop l.place l.tallies.items) (drop l.place (map seen_value l.args)) ≡ fed l.calls l.initial.tallies.items (map seen_value l.args);
+  over : AreOver l.calls l.tallies.items;
+  args : length l.args ≡ length l.calls;
+  tallies : length l.tallies.items ≡ length l.calls;
+}
