@@ -1,9 +1,16 @@
+pub mod BoundLemmas
+pub mod CallLemmas
+pub mod CellLemmas
+pub mod FeedLemmas
+pub mod KeyLemmas
 pub mod NameLemmas
 pub mod OutputLemmas
 pub mod QueryLemmas
 pub mod ResultLemmas
 pub mod RunLemmas
+pub mod ShapeLemmas
 pub mod ShownLemmas
 pub mod SortLemmas
 pub mod TableLemmas
+pub mod TakesLemmas
 pub mod WholeRowLemmas

@@ -1,5 +1,9 @@
 pub mod Bound
+pub mod Calls
+pub mod Keys
+pub mod Outputs
 pub mod Queries
 pub mod Results
+pub mod Shapes
 pub mod Shown
 pub mod Tables

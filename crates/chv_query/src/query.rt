@@ -1,6 +1,7 @@
 // Queries.
 ghost use Rattle.std.specs.Prelude.{◌≡◌};
 
+use crate::Groups;
 use chv_expr::Bound;
 use chv_types::Columns;
 use sqlite_items::Items;
@@ -20,7 +21,8 @@ pub struct Query {
     pub(crate) table: u32,
     pub(crate) columns: Columns,
     pub(crate) filter: Option<Bound>,
-    pub(crate) outputs: Items<Bound>,
+    pub(crate) terms: Items<Bound>,
+    pub(crate) grouping: Option<Groups>,
     pub(crate) order: Items<Sort>,
     pub(crate) limit: Option<u64>,
 }
