@@ -7,6 +7,7 @@ pub mod PairLemmas
 pub mod PlainLemmas
 pub mod ReadingLemmas
 pub mod SetLemmas
+pub mod StateByteLemmas
 pub mod StateFrontLemmas
 pub mod StateLaws
 pub mod StateLemmas

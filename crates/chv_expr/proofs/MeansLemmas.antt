@@ -341,7 +341,7 @@ Binds-widen columns signed other a bound x m t k s =
     )
 
 -- the same value over each row
-Means-constant : (columns : List Column) (plain : Scalar) (value : Value) (bound : Bound)
+pub Means-constant : (columns : List Column) (plain : Scalar) (value : Value) (bound : Bound)
     → IsOfScalar plain value → bound.kind ≡ kind.Plain plain → bound.tree ≡ tree.Constant value → Means columns bound (constant plain value)
 Means-constant columns plain value bound f k t = record {
   kind = k;
@@ -369,6 +369,11 @@ Binds-text columns text bound below k t =
 pub Binds-truth : (columns : List Column) (truth : Bool) (bound : Bound)
     → bound.kind ≡ kind.Plain scalar.Bool → bound.tree ≡ tree.Constant (Truth truth) → Binds columns (literal_term (literal.Truth truth)) (Ok bound)
 Binds-truth columns truth bound k t = (_, refl, Means-constant columns scalar.Bool (Truth truth) bound refl k t)
+
+-- no bound arguments mean no terms
+pub none_meant : (P : List Term → Type 0) (columns : List Column) (terms : List Term) → AreMeant columns arguments.None terms → P [] → P terms
+none_meant P columns [] m p = p
+none_meant P columns (x ∷ terms) m p = absurd m
 
 -- one bound argument means one term
 pub one_meant : (P : List Term → Type 0) (columns : List Column) (a : Bound) (terms : List Term)

@@ -56,10 +56,10 @@ fn bind(alloc: Global, expr: &Expr, columns: &[Column]) -> Result<Bound, Untyped
     }
 }
 
-// Binds the arguments of a call.
+/// The arguments of a call over columns whose names differ, or the first that is refused.
 #[cycle(bind)]
 #[tactic(auto, using(crate::proofs::TermLaws::term_laws))]
-fn bind_args(alloc: Global, args: &Args, columns: &[Column]) -> Result<Arguments, Untyped>
+pub fn bind_args(alloc: Global, args: &Args, columns: &[Column]) -> Result<Arguments, Untyped>
     ensures { BindsAll columns.now (terms_of columns.now args.now) result }
 {
     match args {

@@ -1,5 +1,5 @@
 // Bound expressions.
-ghost use Rattle.std.specs.Prelude.{◌≡◌, IfErr, IfOk, IfSome, List, Some};
+ghost use Rattle.std.specs.Prelude.{◌≡◌, pos, IfErr, IfOk, IfSome, List, Some};
 ghost use Rattle.std.specs.Option.{option_map};
 ghost use Rattle.chv_ast.specs.declared.refusal.Refusal.TheVariants.{TypeMismatch};
 ghost use Rattle.chv_expr.specs.Bindings.{Refuses, meaning, value_in};
@@ -64,6 +64,18 @@ impl Bound {
         ensures tree { IfOk result (λ bound. bound.tree ≡ tree.Column place) }
     {
         Bound::new(alloc, kind, Tree::Column(place))
+    }
+
+    /// A number, the same over each row.
+    pub fn number(alloc: Global, n: u64) -> Result<Bound, AllocError>
+        ensures kind { IfOk result (λ bound. bound.kind ≡ Kind.Plain Scalar.UInt64) }
+        ensures tree { IfOk result (λ bound. bound.tree ≡ tree.Constant (SomeValue.Whole (pos n))) }
+    {
+        Bound::new(
+            alloc,
+            Kind::Plain(Scalar::UInt64),
+            Tree::Constant(Value::Whole(n as i128)),
+        )
     }
 
     /// The kind of its values.

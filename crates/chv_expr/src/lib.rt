@@ -14,7 +14,8 @@ mod literal;
 mod operation;
 mod tree;
 
-pub use bind::{bind_expr, type_of};
+pub use arguments::Arguments;
+pub use bind::{bind_args, bind_expr, type_of};
 pub use bound::Bound;
 pub use evaluate::{eval, value_at};
 pub use fault::{EvalFault, Untyped, ZeroDivisor};

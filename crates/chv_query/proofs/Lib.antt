@@ -1,7 +1,12 @@
 pub mod AcceptedLemmas
 pub mod ArrivalLemmas
+pub mod BoundLemmas
+pub mod CallLemmas
+pub mod CellLemmas
 pub mod DefinitionLemmas
+pub mod FeedLemmas
 pub mod JoinLemmas
+pub mod KeyLemmas
 pub mod LiteralLemmas
 pub mod LiteralRowLemmas
 pub mod NameLemmas
@@ -9,7 +14,9 @@ pub mod OutputLemmas
 pub mod QueryLemmas
 pub mod ResultLemmas
 pub mod RunLemmas
+pub mod ShapeLemmas
 pub mod ShownLemmas
 pub mod SortLemmas
 pub mod TableLemmas
+pub mod TakesLemmas
 pub mod WholeRowLemmas

@@ -6,7 +6,7 @@ use Rattle.chv_ast.specs.declared.expr.Args.TheFolds.{fold-roll-Expr}
 use Rattle.chv_ast.specs.declared.expr.Args.TheOpen.{Expr-F}
 use Rattle.chv_ast.specs.declared.expr.Expr.{Expr, out-Expr, roll-Expr, roll-out-Expr, map-Expr}
 use Rattle.chv_ast.specs.declared.expr.Expr.TheVariants as expr
-use Rattle.chv_query.specs.Queries.{column_name, name_step}
+use Rattle.chv_query.specs.Outputs.{column_name, name_step}
 
 -- the name of one layer
 named : (layer : Expr-F Args Expr) → column_name (roll-Expr layer) ≡ name_step (map-Expr Args Expr (Unit {0}) (Option (List ℕ)) (λ args. tt) column_name layer)

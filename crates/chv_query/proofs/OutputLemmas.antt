@@ -13,7 +13,7 @@ use Rattle.chv_expr.specs.Terms.{Term, column_at, value_at}
 use Rattle.chv_expr.specs.declared.bound.Bound.{Bound}
 use Rattle.chv_expr.specs.declared.tree.Tree.TheVariants as tree
 use Rattle.chv_query.specs.Bound.{AllMean, AreOutputs}
-use Rattle.chv_query.specs.Queries.{Output, columns_from, outputs_of}
+use Rattle.chv_query.specs.Outputs.{Output, columns_from, outputs_of}
 use Rattle.chv_query.specs.declared.output.Outputs.{Outputs}
 
 pub AllMean-append : (columns : List Column) (a b : List Bound) (s t : List Term) → AllMean columns a s → AllMean columns b t → AllMean columns (a ++ b) (s ++ t)

@@ -1,5 +1,5 @@
 -- A bound query makes of each row what is asked.
-use Rattle.std.proofs.Common.{◌≡◌, ℕ, Bool, true, false, if◌then◌else◌, List, [], ◌∷◌, map, Option, None, Some, Ok, refl, ap}
+use Rattle.std.proofs.Common.{◌≡◌, ℕ, Bool, true, false, if◌then◌else◌, List, [], ◌∷◌, map, Option, None, Some, Ok, refl}
 use Rattle.std.proofs.lemmas.List.Elements.{All-nil, All-cons}
 use Rattle.std.specs.List.{All}
 use Rattle.std.specs.Option.{IfSome, option_and_then, option_map}
@@ -12,11 +12,14 @@ use Rattle.chv_types.specs.declared.value.Value.{Value}
 use Rattle.chv_expr.specs.Bindings.{kinds_of}
 use Rattle.chv_expr.specs.Terms.{Term}
 use Rattle.chv_expr.specs.declared.bound.Bound.{Bound}
-use Rattle.chv_query.specs.Bound.{AllMean, AreOutputs, IsFilter, IsQuery, term_in}
-use Rattle.chv_query.specs.Queries.{Asked, Output, asked_of, columns_of, filter_of, limit_of, outputs_of, sorts_of}
+use Rattle.chv_query.specs.Bound.{AllMean, IsFilter, IsQuery, IsShape, term_in}
+use Rattle.chv_query.specs.Outputs.{filter_of}
+use Rattle.chv_query.specs.Queries.{Asked, asked_of, limit_of, sorts_of}
 use Rattle.chv_query.specs.Results.{outcome, output_row, passes}
-use Rattle.chv_query.specs.declared.output.Outputs.{Outputs}
+use Rattle.chv_query.specs.Shapes.{Shape, shape_of}
 use Rattle.chv_query.specs.declared.query.Sort.{Sort}
+use Rattle.chv_query.specs.declared.shape.BoundShape.{BoundShape}
+use Rattle.chv_query.proofs.TakesLemmas.{made_takes, shape_of-feeds}
 
 passes-same : (columns : List Column) (bound : Option Bound) (filter : Option Term) (row : List Value) → IsFilter columns bound filter
     → passes (option_map term_in bound) row ≡ passes filter row
@@ -66,28 +69,38 @@ unfolding outcome
 outcome-Fits columns filter bounds terms row mean fit =
     made_Fits (map (λ (term : Term). term.kind) terms) (passes filter row) (output_row terms row) (output_row-Fits columns bounds terms row mean fit)
 
-kinds-columns_of : (outputs : List Output)
-    → map (λ (column : Column). column.kind) (columns_of outputs) ≡ map (λ (term : Term). term.kind) (map (λ (output : Output). output.term) outputs)
-kinds-columns_of [] = refl
-kinds-columns_of (output ∷ outputs) = ap (λ (kinds : List Kind). output.term.kind ∷ kinds) (kinds-columns_of outputs)
-
 -- a bound query is what is asked, where its parts are
-pub asked_of-IsQuery : (table : ℕ) (def : TableDef) (select : Select) (bound : Option Bound) (found : Outputs) (filter : Option Term) (outputs : List Output) (order : List Sort) (limit : Option ℕ)
+pub asked_of-IsQuery : (table : ℕ) (def : TableDef) (select : Select) (bound : Option Bound) (found : BoundShape) (filter : Option Term) (shape : Shape) (order : List Sort) (limit : Option ℕ)
     → filter_of def.columns select.filter ≡ Ok filter → IsFilter def.columns bound filter
-    → outputs_of def.columns select.items ≡ Ok outputs → AreOutputs def.columns found outputs
+    → shape_of def.columns select ≡ Ok shape → IsShape def.columns found shape
     → sorts_of found.columns select.order ≡ Ok order → limit_of select.limit ≡ Ok limit
     → (query : Asked) × (asked_of table def select ≡ Ok query)
-    × IsQuery (record { table = table; columns = found.columns; filter = bound; outputs = found.bounds; order = order; limit = limit }) query
-asked_of-IsQuery table def select bound found filter outputs order limit filtered is put are sorted limited = (
-  record { table = table; def = def; filter = filter; outputs = outputs; order = order; limit = limit },
-  rw (filtered, put, ← are.named, sorted, limited) refl,
-  record {
-    table = refl;
-    columns = are.named;
-    order = refl;
-    limit = refl;
-    same = λ row. outcome-same def.columns bound filter found.bounds (map (λ (output : Output). output.term) outputs) row is are.mean;
-    fits = λ row fit. rw (are.named, kinds-columns_of outputs)
-        (outcome-Fits def.columns filter found.bounds (map (λ (output : Output). output.term) outputs) row are.mean fit);
-  },
-)
+    × IsQuery (record { table = table; columns = found.columns; filter = bound; terms = found.terms; grouping = found.grouping; order = order; limit = limit }) query
+asked_of-IsQuery table def select bound found filter shape order limit filtered is put are sorted limited =
+    let same : (row : List Value) → outcome (option_map term_in bound) (map term_in found.terms) row ≡ outcome filter shape.terms row =
+    λ row. outcome-same def.columns bound filter found.terms shape.terms row is are.mean in
+    let fits : (row : List Value) → FitAll (kinds_of def.columns) row → IfSome (outcome filter shape.terms row) (All (FitAll (map (λ (term : Term). term.kind) shape.terms))) =
+    λ row fit. outcome-Fits def.columns filter found.terms shape.terms row are.mean fit in (
+      record {
+        table = table;
+        def = def;
+        filter = filter;
+        terms = shape.terms;
+        grouping = shape.grouping;
+        columns = shape.columns;
+        order = order;
+        limit = limit;
+      },
+      rw (filtered, put, ← are.columns, sorted, limited) refl,
+      record {
+        table = refl;
+        columns = are.columns;
+        grouping = are.grouping;
+        order = refl;
+        limit = refl;
+        same = same;
+        fits = fits;
+        takes = λ row fit. rw (same row, are.grouping)
+            (made_takes shape.grouping shape.terms (outcome filter shape.terms row) (shape_of-feeds def.columns select shape put) (fits row fit));
+      },
+    )

@@ -1,11 +1,14 @@
 -- What a bound query gives over rows is what is asked.
 use Rattle.std.proofs.Common.{◌≡◌, ◌∙◌, List, [], ◌∷◌, Option, is_none, is_some, refl, sym, ap, map, ℕ}
+use Rattle.std.proofs.lemmas.List.Elements.{All-weaker}
+use Rattle.std.specs.List.{All}
+use Rattle.chv_catalog.specs.Schemas.{kinds_of}
+use Rattle.chv_types.specs.Fits.{FitAll}
 use Rattle.chv_catalog.proofs.Positions.{is_some-position}
-use Rattle.chv_types.specs.declared.kind.Kind.{Kind}
 use Rattle.chv_types.specs.declared.table.Column.{Column}
 use Rattle.chv_types.specs.declared.value.Value.{Value}
-use Rattle.chv_query.specs.Bound.{IsQuery, first_division, made_by, run}
-use Rattle.chv_query.specs.Queries.{Asked, Output, columns_of, divides, made_of, result_of}
+use Rattle.chv_query.specs.Bound.{IsQuery, TakesRow, first_division, made_by, run}
+use Rattle.chv_query.specs.Queries.{Asked, divides, made_of, result_of}
 use Rattle.chv_query.specs.Results.{division_in, results}
 use Rattle.chv_query.specs.Shown.{kinds_shown, shown, shown_of}
 use Rattle.chv_query.specs.declared.query.Query.{Query}
@@ -22,7 +25,7 @@ module _ (made other : List Value → Option (List (List Value))) (same : (row :
 module _ (query : Query) (asked : Asked) (is : IsQuery query asked) (rows : List (List Value)) where
   -- its rows are those that are asked
   pub run-result_of : run query rows ≡ result_of asked rows
-  run-result_of = results-same (made_by query) (made_of asked) is.same rows
+  run-result_of = rw (is.grouping, results-same (made_by query) (made_of asked) is.same rows) refl
 
   -- it divides by zero where there is a first row on which it does
   pub divides-first_division : (place : Option ℕ) → first_division query rows ≡ place → divides asked rows ≡ is_some place
@@ -34,10 +37,10 @@ module _ (query : Query) (asked : Asked) (is : IsQuery query asked) (rows : List
   pub shown-shown_of : shown query.order query.limit (run query rows) ≡ shown_of asked rows
   shown-shown_of = rw (is.order, is.limit, run-result_of) refl
 
-kinds-columns_of : (outputs : List Output) → map (λ (column : Column). column.kind) (columns_of outputs) ≡ map (λ (output : Output). output.term.kind) outputs
-kinds-columns_of [] = refl
-kinds-columns_of (output ∷ outputs) = ap (λ (kinds : List Kind). output.term.kind ∷ kinds) (kinds-columns_of outputs)
-
 -- the kinds of its columns are those that are shown
 pub kinds-kinds_shown : (query : Query) (asked : Asked) → IsQuery query asked → map (λ (column : Column). column.kind) query.columns ≡ kinds_shown asked
-kinds-kinds_shown query asked is = ap (map (λ (column : Column). column.kind)) is.columns ∙ kinds-columns_of asked.outputs
+kinds-kinds_shown query asked is = ap (map (λ (column : Column). column.kind)) is.columns
+
+-- of rows of the table's kinds its calls take what is made
+pub takes-all : (query : Query) (asked : Asked) → IsQuery query asked → (rows : List (List Value)) → All (FitAll (kinds_of asked.def)) rows → All (TakesRow query) rows
+takes-all query asked is rows fit = All-weaker (FitAll (kinds_of asked.def)) (TakesRow query) (λ row fits. is.takes row fits) rows fit

@@ -13,7 +13,7 @@ use Rattle.chv_expr.specs.Bindings.{meaning}
 use Rattle.chv_expr.specs.Terms.{value_at}
 use Rattle.chv_expr.specs.declared.bound.Bound.{Bound}
 use Rattle.chv_query.specs.Bound.{IsColumn, first_division, run, term_in}
-use Rattle.chv_query.specs.Results.{first_division_in, outcome, output_row, results}
+use Rattle.chv_query.specs.Results.{first_division_in, outcome, output_row, results, shaped}
 use Rattle.chv_query.specs.declared.query.Query.{Query}
 
 -- the columns from a place on give what the row has from there on
@@ -64,8 +64,9 @@ module _ (bounds : List Bound) where
         division-whole rows (All-tail (λ r. output_row (map term_in bounds) r ≡ Some r) row rows all),
       ) refl
 
--- the same of a query
-pub run-whole : (query : Query) (rows : List (List Value)) → query.filter ≡ None → All (λ row. output_row (map term_in query.outputs) row ≡ Some row) rows
-    → (rows ≡ run query rows) × (first_division query rows ≡ None)
-run-whole query rows none all =
-    rw none (sym (results-whole query.outputs rows all), division-whole query.outputs rows all)
+-- the same of a query that does not group
+pub run-whole : (query : Query) (rows : List (List Value)) → query.grouping ≡ None → query.filter ≡ None
+    → All (λ row. output_row (map term_in query.terms) row ≡ Some row) rows → (rows ≡ run query rows) × (first_division query rows ≡ None)
+unfolding shaped
+run-whole query rows single none all =
+    rw (single, none) (sym (results-whole query.terms rows all), division-whole query.terms rows all)

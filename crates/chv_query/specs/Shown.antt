@@ -5,9 +5,10 @@ use Rattle.std.specs.declared.cmp.Ordering.{Ordering}
 use Rattle.chv_types.specs.Order.{row_cmp, value_cmp}
 use Rattle.chv_types.specs.Sorting.{sorted_by}
 use Rattle.chv_types.specs.declared.kind.Kind.{Kind}
+use Rattle.chv_types.specs.declared.table.Column.{Column}
 use Rattle.chv_types.specs.declared.value.Value.{Value}
 use Rattle.chv_expr.specs.Terms.{value_at}
-use Rattle.chv_query.specs.Queries.{Asked, Output, result_of}
+use Rattle.chv_query.specs.Queries.{Asked, result_of}
 use Rattle.chv_query.specs.declared.query.Sort.{Sort}
 
 -- an order, turned where it descends
@@ -40,4 +41,4 @@ shown_of query rows = shown query.order query.limit (result_of query rows)
 
 -- the kinds of its columns
 abbrev pub kinds_shown : Asked → List Kind
-kinds_shown query = map (λ (output : Output). output.term.kind) query.outputs
+kinds_shown query = map (λ (column : Column). column.kind) query.columns

@@ -4,13 +4,14 @@ ghost use Rattle.chv_query.specs.Queries.{asked, asked_of};
 
 use crate::Query;
 use crate::order::{bind_limit, bind_order};
-use crate::output::{bind_filter, bind_outputs};
+use crate::output::bind_filter;
+use crate::shape::bind_shape;
 use chv_ast::{Refusal, Select};
 use chv_catalog::{Schema, StatementFault, TableDef};
 use std::alloc::Global;
 
-/// The query of a SELECT without grouping, or the first check that refuses it: FROM, WHERE, the items, ORDER BY and LIMIT, each
-/// from left to right.
+/// The query of a SELECT, or the first check that refuses it: FROM, WHERE, GROUP BY, the items, ORDER BY and LIMIT, each from
+/// left to right.
 pub fn bind(alloc: Global, schema: &Schema, select: &Select) -> Result<Query, StatementFault>
     ensures { AnswersAs IsQuery (asked schema.now.catalog select.now) result }
 {
@@ -30,14 +31,15 @@ fn bind_to(
     ensures { AnswersAs IsQuery (asked_of table def.now select.now) result }
 {
     let filter = bind_filter(alloc, &def.columns, select.filter.as_ref())?;
-    let found = bind_outputs(alloc, &def.columns, select.items.as_slice())?;
-    let order = bind_order(alloc, &found.columns, select.order.as_slice())?;
+    let shape = bind_shape(alloc, &def.columns, select)?;
+    let order = bind_order(alloc, &shape.columns, select.order.as_slice())?;
     let limit = bind_limit(select.limit.as_ref())?;
     Ok(Query {
         table,
-        columns: found.columns,
+        columns: shape.columns,
         filter,
-        outputs: found.bounds,
+        terms: shape.terms,
+        grouping: shape.grouping,
         order,
         limit,
     })

@@ -3,13 +3,20 @@
 #![tactic(auto)]
 
 mod binding;
+mod calls;
+mod cells;
 mod fault;
+mod groups;
+mod keys;
 mod order;
 mod output;
 mod query;
 mod run;
+mod running;
+mod shape;
 
 pub use binding::bind;
 pub use fault::BlockFault;
+pub use groups::Groups;
 pub use query::{Query, Sort};
 pub use run::{run_block, run_rows};

@@ -5,7 +5,7 @@ ghost use Rattle.chv_ast.specs.declared.refusal.Refusal.{Refusal as SomeRefusal}
 ghost use Rattle.chv_expr.specs.Bindings.{Means, refusal_of};
 ghost use Rattle.chv_expr.specs.Terms.{term_of};
 ghost use Rattle.chv_query.specs.Bound.{AnswersAs, AreOutputs, IsFilter};
-ghost use Rattle.chv_query.specs.Queries.{Output, columns_from, filter_of, is_truth, item_outputs, output_name, outputs_of};
+ghost use Rattle.chv_query.specs.Outputs.{Output, columns_from, filter_of, is_truth, item_outputs, output_name, outputs_of};
 
 use chv_ast::{Expr, Item, Name, Refusal};
 use chv_catalog::StatementFault;
@@ -111,8 +111,8 @@ fn put_columns(alloc: Global, outputs: &mut Outputs, columns: &[Column]) -> Resu
     Ok(())
 }
 
-// Binds an expression.
-fn bind_one(alloc: Global, columns: &Columns, expr: &Expr) -> Result<Bound, StatementFault>
+/// An expression over columns.
+pub fn bind_one(alloc: Global, columns: &Columns, expr: &Expr) -> Result<Bound, StatementFault>
     ensures { AnswersAs (Means columns.now) (term_of columns.now expr.now) result }
 {
     match bind_expr(alloc, expr, columns) {
@@ -121,8 +121,8 @@ fn bind_one(alloc: Global, columns: &Columns, expr: &Expr) -> Result<Bound, Stat
     }
 }
 
-// The fault of a statement with an expression that has no kind.
-fn fault_of(fault: Untyped) -> StatementFault
+/// The fault of a statement with an expression that has no kind.
+pub fn fault_of(fault: Untyped) -> StatementFault
     ensures { (refusal : SomeRefusal) → result ≡ StatementFault.Refused refusal → refusal_of fault ≡ Some refusal }
 {
     match fault {
@@ -134,8 +134,8 @@ fn fault_of(fault: Untyped) -> StatementFault
     }
 }
 
-// The name of an output column: its alias, or its column's name, or its canonical text.
-fn name_of(alloc: Global, alias: Option<&Name>, expr: &Expr) -> Result<Bytes, AllocError>
+/// The name of an output column: its alias, or its column's name, or its canonical text.
+pub fn name_of(alloc: Global, alias: Option<&Name>, expr: &Expr) -> Result<Bytes, AllocError>
     ensures { IfOk result (λ name. name ≡ output_name (option_copied alias.entry) expr.now) }
 {
     match alias {

@@ -3,6 +3,7 @@ ghost use Rattle.std.specs.Prelude.{◌≡◌};
 ghost use Rattle.chv_query.specs.Bound.{IsQuery};
 ghost use Rattle.chv_query.specs.Queries.{Asked, is_merge_blind};
 
+use crate::Groups;
 use chv_expr::Bound;
 use chv_types::Columns;
 use sqlite_items::Items;
@@ -22,7 +23,8 @@ pub struct Query {
     pub(crate) table: u32,
     pub(crate) columns: Columns,
     pub(crate) filter: Option<Bound>,
-    pub(crate) outputs: Items<Bound>,
+    pub(crate) terms: Items<Bound>,
+    pub(crate) grouping: Option<Groups>,
     pub(crate) order: Items<Sort>,
     pub(crate) limit: Option<u64>,
 }
@@ -57,7 +59,7 @@ impl Query {
     }
 
     /// Whether the form of what is asked cannot see which rows of its table merges have made one. A query without grouping
-    /// shows each of them.
+    /// shows each of them, and none that groups is known to be so yet.
     pub fn merge_blind(&self) -> bool
         ensures { (asked : Asked) → IsQuery self.now asked → result ≡ is_merge_blind asked }
     {

@@ -3,21 +3,47 @@ ghost use Rattle.std.specs.Prelude.{◌≡◌, ℕ, length, map, IfOk, IfErr, Is
 ghost use Rattle.std.specs.List.{All};
 ghost use Rattle.std.specs.Option.{option_copied, option_map, option_to_list};
 ghost use Rattle.std.specs.Result.{result_ok};
-ghost use Rattle.chv_query.specs.Bound.{AreColumns, first_division, made_by, run, term_in};
-ghost use Rattle.chv_query.specs.Results.{output_row, passes};
+ghost use Rattle.chv_query.specs.Bound.{AreColumns, TakesRow, first_division, made_by, run, term_in};
+ghost use Rattle.chv_query.specs.Results.{output_row, passes, results};
 
+use crate::running::run_groups;
 use crate::{BlockFault, Query};
 use chv_expr::{Bound, EvalFault, ZeroDivisor};
 use chv_types::{Block, Row, Seen, Value};
 use std::alloc::Global;
 
-/// The rows of a query over the rows of its table, in their order. `ZeroDivisor` has the first row on which a divisor is zero.
+/// The rows of a query over the rows of its table: in their order, or where it groups one for each key, in the order of keys.
+/// `ZeroDivisor` has the first row on which a divisor is zero.
+#[tactic(auto, unfolding(crate::specs::Results::shaped))]
 pub fn run_block(alloc: Global, query: &Query, block: &Block) -> Result<Block, BlockFault>
+    requires takes { All (TakesRow query.now) block.now }
     ensures rows { IfOk result (λ rows. (rows ≡ run query.now block.now) × (first_division query.now block.now ≡ None)) }
     ensures zero { IfErr result (λ fault. (row : ℕ) → fault ≡ BlockFault.ZeroDivisor row → first_division query.now block.now ≡ Some row) }
 {
+    match &query.grouping {
+        None => run_each(alloc, query, block.as_slice()),
+        Some(groups) => run_groups(alloc, query, groups, block.as_slice()),
+    }
+}
+
+/// The same over rows that are not wanted any more: where all are shown as they are, none is copied.
+pub fn run_rows(alloc: Global, query: &Query, block: Block) -> Result<Block, BlockFault>
+    requires takes { All (TakesRow query.now) block }
+    ensures rows { IfOk result (λ rows. (rows ≡ run query.now block) × (first_division query.now block ≡ None)) }
+    ensures zero { IfErr result (λ fault. (row : ℕ) → fault ≡ BlockFault.ZeroDivisor row → first_division query.now block ≡ Some row) }
+{
+    if shows_all(query, block.as_slice()) {
+        return Ok(block);
+    }
+    run_block(alloc, query, &block)
+}
+
+// What a query makes of each of some rows.
+fn run_each(alloc: Global, query: &Query, rows: &[Row]) -> Result<Block, BlockFault>
+    ensures rows { IfOk result (λ made. (made ≡ results (made_by query.now) rows.now) × (first_division query.now rows.now ≡ None)) }
+    ensures zero { IfErr result (λ fault. (row : ℕ) → fault ≡ BlockFault.ZeroDivisor row → first_division query.now rows.now ≡ Some row) }
+{
     let mut made = Block::new(alloc);
-    let rows = block.as_slice();
     for i in 0..rows.len() {
         match make(alloc, query, rows[i].as_slice()) {
             Ok(Some(row)) => made.push(row)?,
@@ -29,15 +55,17 @@ pub fn run_block(alloc: Global, query: &Query, block: &Block) -> Result<Block, B
     Ok(made)
 }
 
-/// The same over rows that are not wanted any more: where all are shown as they are, none is copied.
-pub fn run_rows(alloc: Global, query: &Query, block: Block) -> Result<Block, BlockFault>
-    ensures rows { IfOk result (λ rows. (rows ≡ run query.now block) × (first_division query.now block ≡ None)) }
-    ensures zero { IfErr result (λ fault. (row : ℕ) → fault ≡ BlockFault.ZeroDivisor row → first_division query.now block ≡ Some row) }
+// Whether a query shows all of some rows as they are.
+fn shows_all(query: &Query, rows: &[Row]) -> bool
+    ensures { IsTrue result → (query.now.grouping ≡ None) × (query.now.filter ≡ None) × All (λ row. output_row (map term_in query.now.terms) row ≡ Some row) rows.now }
 {
-    if query.filter.is_none() && shows_rows(query.outputs.as_slice(), block.as_slice()) {
-        return Ok(block);
+    match &query.grouping {
+        Some(_) => false,
+        None => match &query.filter {
+            Some(_) => false,
+            None => shows_rows(query.terms.as_slice(), rows),
+        },
     }
-    run_block(alloc, query, &block)
 }
 
 // Whether the outputs over each of some rows are its values as they are.
@@ -75,11 +103,11 @@ fn make(alloc: Global, query: &Query, row: &[Value]) -> Result<Option<Row>, Eval
     if !passes(query.filter.as_ref(), row)? {
         return Ok(None);
     }
-    Ok(Some(output_row(alloc, query.outputs.as_slice(), row)?))
+    Ok(Some(output_row(alloc, query.terms.as_slice(), row)?))
 }
 
-// Whether a row passes the condition, where there is one.
-fn passes(filter: Option<&Bound>, row: &[Value]) -> Result<bool, ZeroDivisor>
+/// Whether a row passes the condition, where there is one.
+pub fn passes(filter: Option<&Bound>, row: &[Value]) -> Result<bool, ZeroDivisor>
     ensures { result_ok result ≡ passes (option_map term_in (option_copied filter.entry)) row.now }
 {
     match filter {

@@ -1,5 +1,8 @@
 // Answers.
 ghost use Rattle.std.specs.Prelude.{◌≡◌, map, IfOk};
+ghost use Rattle.std.specs.List.{All};
+ghost use Rattle.chv_catalog.specs.Schemas.{kinds_of};
+ghost use Rattle.chv_types.specs.Fits.{FitAll};
 ghost use Rattle.chv_query.specs.Queries.{Asked};
 ghost use Rattle.chv_query.specs.Shown.{order_cmp, shown, turned, up_to};
 ghost use Rattle.chv_select.specs.Answers.{IsAnswer, IsPrepared};
@@ -27,6 +30,7 @@ pub struct Answered {
 /// What a query shows over all rows of its table: its rows, sorted by the columns of ORDER BY and then by all values, as many as
 /// LIMIT says at most. It is refused with DivisionByZero alone.
 pub fn answer(alloc: Global, prepared: &Prepared, rows: Block) -> Result<Answered, StatementFault>
+    requires fit { (asked : Asked) × IsPrepared prepared.now asked × All (FitAll (kinds_of asked.def)) rows }
     ensures { (asked : Asked) → IsPrepared prepared.now asked → IsAnswer asked rows result }
 {
     let kinds = kinds_of(alloc, prepared.query.columns())?;

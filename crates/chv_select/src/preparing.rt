@@ -24,7 +24,7 @@ impl Prepared {
     }
 }
 
-/// Prepares a SELECT without grouping, or answers the first check that refuses it. It reads no row.
+/// Prepares a SELECT, or answers the first check that refuses it. It reads no row.
 pub fn prepare(alloc: Global, schema: &Schema, select: &Select) -> Result<Prepared, StatementFault>
     ensures { AnswersAs IsPrepared (asked schema.now.tables select.now) result }
 {

@@ -1,5 +1,5 @@
 use Rattle.std.proofs.Common.{◌≡◌, true, Some, refl}
-use Rattle.chv_query.specs.Queries.{is_truth}
+use Rattle.chv_query.specs.Outputs.{is_truth}
 use Rattle.chv_query.proofs.output.bind_filter.Goals as goal
 
 pub returns : goal.returns

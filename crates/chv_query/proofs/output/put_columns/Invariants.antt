@@ -1,6 +1,6 @@
 use Rattle.std.proofs.Common.{List, ◌++◌, take}
 use Rattle.chv_query.specs.Bound.{AreOutputs}
-use Rattle.chv_query.specs.Queries.{Output, columns_from}
+use Rattle.chv_query.specs.Outputs.{Output, columns_from}
 use Rattle.chv_query.proofs.output.put_columns.Given as goal
 
 abbrev pub invariant-loop-place : goal.invariant-loop-place

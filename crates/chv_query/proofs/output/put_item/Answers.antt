@@ -1,5 +1,5 @@
 use Rattle.std.proofs.Common.{◌≡◌, ◌∷◌, [], refl, rules}
-use Rattle.chv_query.specs.Queries.{Output, output_name}
+use Rattle.chv_query.specs.Outputs.{Output, output_name}
 use Rattle.chv_query.proofs.OutputLemmas.{AreOutputs-push}
 use Rattle.chv_query.proofs.output.put_item.Goals as goal
 

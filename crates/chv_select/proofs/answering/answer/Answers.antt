@@ -1,8 +1,13 @@
 use Rattle.std.proofs.Common.{◌≡◌, None, Some, refl, ◌∙◌}
 use Rattle.chv_query.specs.Bound.{run}
 use Rattle.chv_query.specs.Shown.{kinds_shown, shown}
-use Rattle.chv_query.proofs.ResultLemmas.{divides-first_division, kinds-kinds_shown, shown-shown_of}
+use Rattle.chv_query.proofs.ResultLemmas.{divides-first_division, kinds-kinds_shown, shown-shown_of, takes-all}
 use Rattle.chv_select.proofs.answering.answer.Goals as goal
+
+pub run_rows-requires : goal.run_rows-requires
+run_rows-requires c =
+    let query = c.args.prepared.now.query in
+    record { takes = takes-all query c.requires.fit.0 c.requires.fit.1 c.args.rows c.requires.fit.2 }
 
 pub returns-in-Err-ZeroDivisor : goal.returns-in-Err-ZeroDivisor
 returns-in-Err-ZeroDivisor c = λ asked is. (

@@ -1,9 +1,0 @@
-use Rattle.std.proofs.Common.{◌≡◌, None, take}
-use Rattle.chv_query.specs.Bound.{first_division, run}
-use Rattle.chv_query.proofs.run.run_block.Given as goal
-
-abbrev pub invariant-loop-i : goal.invariant-loop-i
-invariant-loop-i l = record {
-  rows : l.made ≡ run l.query (take l.i l.rows);
-  none : first_division l.query (take l.i l.rows) ≡ None;
-}
