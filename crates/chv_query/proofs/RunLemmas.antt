@@ -22,3 +22,10 @@ position-first p (first ∷ xs) zero x within is none passes = position-cons p f
 position-first p (first ∷ xs) (suc i) x within is none passes =
     let before = none_of_both (p first) (position p (take i xs)) (sym (position-cons p first (take i xs)) ∙ none) in
     position-cons p first xs ∙ rw (before.0, position-first p xs i x (omega arith) is before.1 passes) refl
+
+-- where none passes, and one more does not, none passes
+pub none-more : {X : Type 0} (p : X → Bool) (xs : List X) (x : X) → position p xs ≡ None → p x ≡ false → position p (xs ++ x ∷ []) ≡ None
+none-more p [] x none fails = position-cons p x [] ∙ rw fails refl
+none-more p (first ∷ xs) x none fails =
+    let before = none_of_both (p first) (position p xs) (sym (position-cons p first xs) ∙ none) in
+    position-cons p first (xs ++ x ∷ []) ∙ rw (before.0, none-more p xs x before.1 fails) refl
