@@ -59,7 +59,7 @@ pub fed-more : (query : Query) (keys : ℕ) (old new : Gathered) (rows : List (L
     → HasTaken new (map (keyed keys) (results (made_by query) (take (i + 1) rows)))
 fed-more query keys old new rows i row within is some has fed =
     elim (made_by query row) as (λ (o : Option (List (List Value))). made_by query row ≡ o → IsSome o → HasTaken new (map (keyed keys) (results (made_by query) (take (i + 1) rows)))) [
-      | None ↦ λ e none. absurd none
+      | None ↦ λ e none. cc
       | Some made ↦ λ e there.
           let before = results (made_by query) (take i rows) in
           let one : results (made_by query) (row ∷ []) ≡ made = rw e (append-nil made) in
@@ -74,6 +74,6 @@ pub none-fed : (query : Query) (rows : List (List Value)) (i : ℕ) (row : List 
     → first_division query (take i rows) ≡ None → first_division query (take (i + 1) rows) ≡ None
 none-fed query rows i row within is some none =
     let there : is_none (made_by query row) ≡ false =
-    elim (made_by query row) as (λ (o : Option (List (List Value))). IsSome o → is_none o ≡ false) [ None ↦ λ no. absurd no | Some made ↦ λ yes. refl ] some in
+    elim (made_by query row) as (λ (o : Option (List (List Value))). IsSome o → is_none o ≡ false) [ None ↦ λ no. cc | Some made ↦ λ yes. refl ] some in
     ap (first_division query) (take_more rows i row within ∙ ap (λ (r : List Value). take i rows ++ r ∷ []) (sym is))
     ∙ none-more (λ (r : List Value). is_none (made_by query r)) (take i rows) row none there
