@@ -4,10 +4,10 @@ use Rattle.std.specs.List.{All}
 use Rattle.std.proofs.lemmas.List.{map-append}
 use Rattle.std.proofs.lemmas.List.Elements.{All-nil, All-push}
 use Rattle.chv_ast.specs.declared.statement.Statement.{Statement}
-use Rattle.chv_catalog.specs.Schemas.{kinds_of}
+use Rattle.chv_catalog.specs.Schemas.{Catalog, kinds_of, no_definitions, with_table}
 use Rattle.chv_catalog.specs.declared.table_def.TableDef.{TableDef}
-use Rattle.chv_define.specs.Accepted.{Accepted, AreTexts, IsAccepted, IsSchema, Table as Makes, catalog_payload, tables_of}
-use Rattle.chv_define.proofs.AcceptedLemmas.{AreAccepted-push, tables_of-push}
+use Rattle.chv_query.specs.Accepted.{Accepted, AreTexts, IsAccepted, IsSchema, Table as Makes, catalog_of, catalog_payload}
+use Rattle.chv_query.proofs.AcceptedLemmas.{IsSchema-push, catalog_of-push}
 use Rattle.chv_gate.specs.GateLog.{frame_of, begun, IsReady}
 use Rattle.chv_gate.specs.Reading.{IsOpen, IsFollowed, IsReadUpTo}
 use Rattle.chv_gate.proofs.DamageLaws.{followed_unique, damage_of_begun, frames_of_begun}
@@ -25,8 +25,8 @@ use Rattle.chv_store.proofs.MakesLemmas.{makes_columns, makes_few, makes_frame}
 use Rattle.chv_store.proofs.SchemaLemmas.{next-AreTexts}
 
 -- a payload that makes no table
-pub lacks_table : (tables : List TableDef) (gate : ℕ) (file payload : List ℕ) (next : ℕ) → IsOpen gate file × IsFollowed gate payload next file → MakesNone tables payload → LacksTable tables gate file
-lacks_table tables gate file payload next read none = record {
+pub lacks_table : (catalog : Catalog) (gate : ℕ) (file payload : List ℕ) (next : ℕ) → IsOpen gate file × IsFollowed gate payload next file → MakesNone catalog payload → LacksTable catalog gate file
+lacks_table catalog gate file payload next read none = record {
   opened = read.0;
   none = λ create def place makes follows. none create def makes (followed_unique gate next place payload (statement_text create) file read.1 follows);
 }
@@ -40,43 +40,43 @@ pub record AreWithin (tables : List TableDef) (gate : ℕ) : Type 0 where
 pub within_none : AreWithin [] 0
 within_none = record { columns = All-nil (λ (def : TableDef). AreColumns (kinds_of def)); few = omega arith; gate_is = omega arith }
 
-pub within_next : (tables : List TableDef) (gate : ℕ) (create : Statement) (def : TableDef) (next : ℕ) → AreWithin tables gate → MakesTable tables create def → next ≡ gate + length (frame_of (statement_text create))
-    → AreWithin (tables ++ def ∷ []) next
-within_next tables gate create def next within makes place =
-    let one_more = length-append tables (def ∷ []) in
+pub within_next : (catalog : Catalog) (gate : ℕ) (create : Statement) (def : TableDef) (next : ℕ) → AreWithin catalog.tables gate → MakesTable catalog create def → next ≡ gate + length (frame_of (statement_text create))
+    → AreWithin (with_table def catalog).tables next
+within_next catalog gate create def next within makes place =
+    let one_more = length-append catalog.tables (def ∷ []) in
     record {
-      columns = All-push (λ (d : TableDef). AreColumns (kinds_of d)) tables def within.columns (makes_columns tables create def makes);
-      few = omega (arith, one_more, makes_few tables create def makes);
-      gate_is = omega (arith, one_more, place, within.gate_is, makes_frame tables create def makes);
+      columns = All-push (λ (d : TableDef). AreColumns (kinds_of d)) catalog.tables def within.columns (makes_columns catalog create def makes);
+      few = omega (arith, one_more, makes_few catalog create def makes);
+      gate_is = omega (arith, one_more, place, within.gate_is, makes_frame catalog create def makes);
     }
 
--- the texts of these tables are read, and their gates are open
-pub record HasTables (tables : List TableDef) (gate : ℕ) (file : List ℕ) : Type 0 where
+-- the texts of what a catalog has are read, and their gates are open
+pub record HasTables (catalog : Catalog) (gate : ℕ) (file : List ℕ) : Type 0 where
   pub schema : List Accepted
   pub lawful : IsSchema schema
-  pub are : tables ≡ tables_of schema
+  pub are : catalog ≡ catalog_of schema
   pub read : IsReadUpTo gate (map catalog_payload schema) file
 
 -- no text was read yet
-pub tables_none : (file : List ℕ) → HasTables [] 0 file
+pub tables_none : (file : List ℕ) → HasTables no_definitions 0 file
 tables_none file = record { schema = []; lawful = tt; are = refl; read = reads_none file }
 
 -- one text more was read
-pub tables_next : (tables : List TableDef) (gate : ℕ) (file : List ℕ) (read : TableRead) → HasTables tables gate file → ReadsTable tables gate file (Some read) → HasTables (tables ++ read.def ∷ []) read.next file
-tables_next tables gate file read so_far reads =
+pub tables_next : (catalog : Catalog) (gate : ℕ) (file : List ℕ) (read : TableRead) → HasTables catalog gate file → ReadsTable catalog gate file (Some read) → HasTables (with_table read.def catalog) read.next file
+tables_next catalog gate file read so_far reads =
     let accepted : Accepted = record { statement = reads.0; definition = Makes read.def } in
     record {
       schema = so_far.schema ++ accepted ∷ [];
-      lawful = AreAccepted-push [] so_far.schema accepted so_far.lawful reads.1.built (subst (λ (ts : List TableDef). IsAccepted ts accepted) so_far.are reads.1.passes);
-      are = ap (λ (ts : List TableDef). ts ++ read.def ∷ []) so_far.are ∙ sym (tables_of-push so_far.schema accepted);
+      lawful = IsSchema-push so_far.schema accepted so_far.lawful reads.1.built (subst (λ (c : Catalog). IsAccepted c accepted) so_far.are reads.1.passes);
+      are = ap (with_table read.def) so_far.are ∙ sym (catalog_of-push so_far.schema accepted);
       read = subst (λ (ps : List (List ℕ)). IsReadUpTo read.next ps file) (sym (map-append catalog_payload so_far.schema (accepted ∷ [])))
           (reads_more gate (map catalog_payload so_far.schema) file (statement_text reads.0) read.next so_far.read reads.2 reads.3);
     }
 
 -- no text of a statement that makes a table follows: the log is damaged, and was before it was begun
-pub tables_damage : (tables : List TableDef) (gate : ℕ) (bytes : List ℕ) (damage : Damage) → HasTables tables gate (begun bytes)
-    → (damage ≡ Damage.Catalog (gate + 1)) × LacksTable tables gate (begun bytes) → IsCatalogDamage bytes damage
-tables_damage tables gate bytes damage so_far told =
+pub tables_damage : (catalog : Catalog) (gate : ℕ) (bytes : List ℕ) (damage : Damage) → HasTables catalog gate (begun bytes)
+    → (damage ≡ Damage.Catalog (gate + 1)) × LacksTable catalog gate (begun bytes) → IsCatalogDamage bytes damage
+tables_damage catalog gate bytes damage so_far told =
     subst (IsCatalogDamage bytes) (sym told.0)
     (damage_of_begun AreTexts (gate + 1) bytes (record {
       payloads = map catalog_payload so_far.schema;
@@ -87,23 +87,23 @@ tables_damage tables gate bytes damage so_far told =
       place = refl;
       wrong = λ payload next follows right.
           let made = next-AreTexts so_far.schema payload so_far.lawful right in
-          told.1.none made.0.statement made.1 next (subst (λ (ts : List TableDef). MakesTable ts made.0.statement made.1) (sym so_far.are) made.2)
+          told.1.none made.0.statement made.1 next (subst (λ (c : Catalog). MakesTable c made.0.statement made.1) (sym so_far.are) made.2)
           (subst (λ (l : List ℕ). IsFollowed gate l next (begun bytes)) made.3 follows);
     }))
 
 -- where no text is read, the gate is not open
-pub catalog_ended : (tables : List TableDef) (gate : ℕ) (file bytes : List ℕ) (read : Option TableRead) → file ≡ bytes → read ≡ None → ReadsTable tables gate file read → IsOpen gate bytes → ⊥
-catalog_ended tables gate file bytes read same none reads = subst (ReadsTable tables gate bytes) none (subst (λ (b : List ℕ). ReadsTable tables gate b read) same reads)
+pub catalog_ended : (catalog : Catalog) (gate : ℕ) (file bytes : List ℕ) (read : Option TableRead) → file ≡ bytes → read ≡ None → ReadsTable catalog gate file read → IsOpen gate bytes → ⊥
+catalog_ended catalog gate file bytes read same none reads = subst (ReadsTable catalog gate bytes) none (subst (λ (b : List ℕ). ReadsTable catalog gate b read) same reads)
 
 -- the log was read to its end
-pub holds_read : (tables : List TableDef) (gate : ℕ) (bytes : List ℕ) (now : FileState) → HasTables tables gate (begun bytes) → (IsOpen gate (begun bytes) → ⊥) → now ≡ settled (begun bytes)
-    → HoldsCatalog tables gate bytes now
-holds_read tables gate bytes now so_far shut begun_now =
+pub holds_read : (catalog : Catalog) (gate : ℕ) (bytes : List ℕ) (now : FileState) → HasTables catalog gate (begun bytes) → (IsOpen gate (begun bytes) → ⊥) → now ≡ settled (begun bytes)
+    → HoldsCatalog catalog gate bytes now
+holds_read catalog gate bytes now so_far shut begun_now =
     let payloads = map catalog_payload so_far.schema in
     record {
       schema = so_far.schema;
       lawful = so_far.lawful;
-      tables_are = so_far.are;
+      catalog_is = so_far.are;
       frames = frames_of_begun payloads bytes (reads_end gate payloads (begun bytes) so_far.read shut);
       log = subst (λ (s : FileState). IsReady gate payloads s) (sym begun_now) (reads_ready gate payloads bytes so_far.read shut);
     }

@@ -65,12 +65,12 @@ new_stands form image number bytes short is = record {
 }
 
 module _ (store : Store) (old : Outside) (payloads : List (List ℕ)) (books : ℕ → Book) (text : List ℕ) (def : TableDef) (number : ℕ) (within : IsWithin store) (held : HoldsBooks store old.files payloads books)
-    (is : number ≡ length store.schema.tables + 1) where
+    (is : number ≡ length store.schema.catalog.tables + 1) where
   abbrev log : FileId
   log = table_log number
 
   abbrev new_books : ℕ → Book
-  new_books = with_book (length store.schema.tables + 1) no_book books
+  new_books = with_book (length store.schema.catalog.tables + 1) no_book books
 
   -- what the files stand for, without the table and with it
   abbrev pub Was : Image → Type 0
@@ -84,10 +84,10 @@ module _ (store : Store) (old : Outside) (payloads : List (List ℕ)) (books : �
   number_is = omega (arith, is, forms-length store)
 
   new_book : new_books number ≡ no_book
-  new_book = subst (λ (n : ℕ). new_books n ≡ no_book) (sym is) (with_one-same (length store.schema.tables + 1) no_book books)
+  new_book = subst (λ (n : ℕ). new_books n ≡ no_book) (sym is) (with_one-same (length store.schema.catalog.tables + 1) no_book books)
 
   old_book : (n : ℕ) → n ≢ number → new_books n ≡ books n
-  old_book n other = with_one-other (length store.schema.tables + 1) n no_book books (λ same. other (same ∙ sym is))
+  old_book n other = with_one-other (length store.schema.catalog.tables + 1) n no_book books (λ same. other (same ∙ sym is))
 
   -- the new log is short before
   pub log_most : (old.files log).most ≤ 1

@@ -56,7 +56,7 @@ module _ (store : Store) (table : ℕ) (held : Table) (at : TableOf store table 
       others f (λ log. apart (ap (λ (g : FileId). g.table) log)) (λ is_part. apart (ap (λ (g : FileId). g.table) is_part))
 
   -- what is brought to the number is brought to the table
-  pub brings_it : (id : BlockId) (rows : ℕ) (encoded : List ℕ) (entry : Entry) → BringsTo store.schema.tables table id rows encoded entry → Brings held id rows encoded entry
+  pub brings_it : (id : BlockId) (rows : ℕ) (encoded : List ℕ) (entry : Entry) → BringsTo store.schema.catalog.tables table id rows encoded entry → Brings held id rows encoded entry
   brings_it id rows encoded entry brings =
       let form : form_of brings.def ≡ held_form held = sym (its_form store table held at brings.def brings.stands) in
       record {

@@ -2,7 +2,7 @@
 use Rattle.std.proofs.Common.{◌≡◌, ◌≢◌, ℕ, ◌+◌, ◌<◌, ◌≤◌, List, [], ◌∷◌, ◌++◌, length, map, Bool, true, false, cond, refl, sym, ap, subst, ◌∙◌, arith, length-append, None}
 use Rattle.std.specs.declared.alloc.Global.{Global}
 use Rattle.std.specs.declared.vec.Vec.{Vec}
-use Rattle.chv_catalog.specs.Schemas.{Seen}
+use Rattle.chv_catalog.specs.Schemas.{Catalog, Seen, with_table}
 use Rattle.chv_catalog.specs.declared.table_def.TableDef.{TableDef}
 use Rattle.chv_commit.specs.Replays.{no_state}
 use Rattle.chv_commit.specs.Commits.{commit_spelling}
@@ -57,22 +57,22 @@ new_commits number table before between at begun_now most lengths holds =
 -- what a store is with this table behind the others
 pub record IsMade (store : Store) (number : ℕ) (def : TableDef) (table : Table) (new : Store) : Type 0 where
   pub within : IsWithin store
-  pub number_is : number ≡ length store.schema.tables + 1
+  pub number_is : number ≡ length store.schema.catalog.tables + 1
   pub held_as : IsHeldAs number def table
   pub file : new.catalog.file ≡ store.catalog.file
-  pub schema : new.schema.tables ≡ store.schema.tables ++ def ∷ []
+  pub schema : new.schema.catalog.tables ≡ store.schema.catalog.tables ++ def ∷ []
   pub tables : new.tables.items ≡ store.tables.items ++ table ∷ []
 
 -- it is made of room for the table, in the schema and among the tables
-pub is_made : (store : Store) (number : ℕ) (def : TableDef) (table : Table) (reserved : Seen) (grown : Vec Table Global) (new : Store) → IsWithin store → number ≡ length store.schema.tables + 1
-    → IsTableWithin table × IsTableOf number def table × (held_state table ≡ no_state) → new.catalog.file ≡ store.catalog.file → reserved.tables ≡ store.schema.tables
-    → new.schema ≡ record { tables = reserved.tables ++ def ∷ []; room = None } → grown.items ≡ store.tables.items → new.tables.items ≡ grown.items ++ table ∷ [] → IsMade store number def table new
+pub is_made : (store : Store) (number : ℕ) (def : TableDef) (table : Table) (reserved : Seen) (grown : Vec Table Global) (new : Store) → IsWithin store → number ≡ length store.schema.catalog.tables + 1
+    → IsTableWithin table × IsTableOf number def table × (held_state table ≡ no_state) → new.catalog.file ≡ store.catalog.file → reserved.catalog ≡ store.schema.catalog
+    → new.schema ≡ record { catalog = with_table def reserved.catalog; room = None } → grown.items ≡ store.tables.items → new.tables.items ≡ grown.items ++ table ∷ [] → IsMade store number def table new
 is_made store number def table reserved grown new within number_is fresh file kept schema same tables = record {
   within = within;
   number_is = number_is;
   held_as = (fresh.0, fresh.1);
   file = file;
-  schema = ap (λ (s : Seen). s.tables) schema ∙ ap (λ (defs : List TableDef). defs ++ def ∷ []) kept;
+  schema = ap (λ (s : Seen). s.catalog.tables) schema ∙ ap (λ (catalog : Catalog). catalog.tables ++ def ∷ []) kept;
   tables = tables ∙ ap (λ (ts : List Table). ts ++ table ∷ []) same;
 }
 
@@ -93,20 +93,20 @@ module _ (store : Store) (number : ℕ) (within : IsWithin store) (before betwee
 
 module _ (store : Store) (number : ℕ) (def : TableDef) (table : Table) (new : Store) (made : IsMade store number def table new) where
   -- what holds of each table, the last being new
-  each_made : (P Q : ℕ → TableDef → Table → Type 0) → ((n : ℕ) (d : TableDef) (t : Table) → 1 ≤ n → n ≢ number → P n d t → Q n d t) → EachTable P 1 store.schema.tables store.tables.items → Q number def table
-      → EachTable Q 1 new.schema.tables new.tables.items
+  each_made : (P Q : ℕ → TableDef → Table → Type 0) → ((n : ℕ) (d : TableDef) (t : Table) → 1 ≤ n → n ≢ number → P n d t → Q n d t) → EachTable P 1 store.schema.catalog.tables store.tables.items → Q number def table
+      → EachTable Q 1 new.schema.catalog.tables new.tables.items
   each_made P Q others each its =
-      let at : number ≡ 1 + length store.schema.tables = omega (arith, made.number_is) in
+      let at : number ≡ 1 + length store.schema.catalog.tables = omega (arith, made.number_is) in
       subst (λ (defs : List TableDef). EachTable Q 1 defs new.tables.items) (sym made.schema)
-      (subst (EachTable Q 1 (store.schema.tables ++ def ∷ [])) (sym made.tables)
-      (each-more Q 1 store.schema.tables store.tables.items def table
-      (each-weaker P Q 1 store.schema.tables store.tables.items (λ n d t low high is. others n d t low (λ same. omega (arith, same, high, at)) is) each)
+      (subst (EachTable Q 1 (store.schema.catalog.tables ++ def ∷ [])) (sym made.tables)
+      (each-more Q 1 store.schema.catalog.tables store.tables.items def table
+      (each-weaker P Q 1 store.schema.catalog.tables store.tables.items (λ n d t low high is. others n d t low (λ same. omega (arith, same, high, at)) is) each)
       (subst (λ (n : ℕ). Q n def table) at its)))
 
-  one_more : length new.schema.tables ≡ number
-  one_more = omega (arith, ap length made.schema, length-append store.schema.tables (def ∷ []), made.number_is)
+  one_more : length new.schema.catalog.tables ≡ number
+  one_more = omega (arith, ap length made.schema, length-append store.schema.catalog.tables (def ∷ []), made.number_is)
 
-  pub made_within : length store.schema.tables < 256 → new.catalog.gate ≤ store.catalog.gate + MAX_STEP → IsWithin new
+  pub made_within : length store.schema.catalog.tables < 256 → new.catalog.gate ≤ store.catalog.gate + MAX_STEP → IsWithin new
   made_within room gate = record {
     catalog = made.file ∙ made.within.catalog;
     few = omega (arith, one_more, made.number_is, room);
@@ -124,13 +124,13 @@ module _ (store : Store) (number : ℕ) (def : TableDef) (table : Table) (new : 
         let Behind = (λ (n : ℕ) (d : TableDef) (t : Table). IsTablePlaced t behind) in
         record {
           catalog = gate;
-          tables = each-all Behind (λ t. IsTablePlaced t behind) 1 new.schema.tables new.tables.items (λ n d t is. is)
+          tables = each-all Behind (λ t. IsTablePlaced t behind) 1 new.schema.catalog.tables new.tables.items (λ n d t is. is)
               (each_made Before Behind (λ n d t low other was. placed_kept before behind n d t (same_files n low other) was.0 was.1)
-              (each-with-all IsHeldAs (λ t. IsTablePlaced t before) 1 store.schema.tables store.tables.items made.within.tables placed.tables) its);
+              (each-with-all IsHeldAs (λ t. IsTablePlaced t before) 1 store.schema.catalog.tables store.tables.items made.within.tables placed.tables) its);
         }
 
     pub made_books : (payloads more : List (List ℕ)) (books : ℕ → Book) → HoldsBooks store before payloads books → IsReady new.catalog.gate more (behind new.catalog.file) → HoldsBook table behind no_book
-        → HoldsBooks new behind more (with_book (length store.schema.tables + 1) no_book books)
+        → HoldsBooks new behind more (with_book (length store.schema.catalog.tables + 1) no_book books)
     made_books payloads more books holds ready empty =
         let Number = λ (n : ℕ). HoldsBooks new behind more (with_book n no_book books) in
         subst Number made.number_is (record {
@@ -143,7 +143,7 @@ module _ (store : Store) (number : ℕ) (def : TableDef) (table : Table) (new : 
         })
 
     pub made_logs : (payloads more : List (List ℕ)) (commits : ℕ → List Commit) → HoldsLogs store before payloads commits → IsReady new.catalog.gate more (behind new.catalog.file) → HoldsCommits table behind []
-        → HoldsLogs new behind more (with_one (length store.schema.tables + 1) [] commits)
+        → HoldsLogs new behind more (with_one (length store.schema.catalog.tables + 1) [] commits)
     made_logs payloads more commits holds ready empty =
         let Number = λ (n : ℕ). HoldsLogs new behind more (with_one n [] commits) in
         let none : List Commit = [] in
@@ -152,6 +152,6 @@ module _ (store : Store) (number : ℕ) (def : TableDef) (table : Table) (new : 
           tables = each_made (λ n d t. IsHeldAs n d t × HoldsCommits t before (commits n)) (λ n d t. HoldsCommits t behind (with_one number none commits n))
               (λ n d t low other was. subst (HoldsCommits t behind) (sym (with_one-other number n none commits other))
               (holds_commits_kept t before behind (commits n) (same_files n low other t.log.file (log_number n d t was.0)) was.1))
-              (each-both IsHeldAs (λ n d t. HoldsCommits t before (commits n)) 1 store.schema.tables store.tables.items made.within.tables holds.tables)
+              (each-both IsHeldAs (λ n d t. HoldsCommits t before (commits n)) 1 store.schema.catalog.tables store.tables.items made.within.tables holds.tables)
               (subst (HoldsCommits table behind) (sym (with_one-same number none commits)) empty);
         })

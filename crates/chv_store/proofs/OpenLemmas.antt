@@ -1,9 +1,11 @@
 -- What the catalog that is read says of the store that is opened.
 use Rattle.std.proofs.Common.{◌≡◌, ℕ, ◌+◌, ◌≤◌, List, length, map, refl, sym, ◌∙◌, ap, subst, arith}
 use Rattle.std.proofs.lemmas.List.{length-map}
+use Rattle.chv_catalog.proofs.SchemaLemmas.{same_tables}
+use Rattle.chv_catalog.specs.Schemas.{Catalog}
 use Rattle.chv_catalog.specs.declared.table_def.TableDef.{TableDef}
 use Rattle.chv_commit.specs.Commits.{commit_spelling}
-use Rattle.chv_define.specs.Accepted.{Accepted, IsSchema, catalog_payload, tables_of}
+use Rattle.chv_query.specs.Accepted.{Accepted, IsSchema, catalog_of, catalog_payload, tables_of}
 use Rattle.chv_gate.specs.Crashes.{Leaves, LeavesFrames}
 use Rattle.chv_gate.specs.GateLog.{HasFrames, IsReady}
 use Rattle.chv_gate.proofs.GateLogLemmas.{unique}
@@ -43,8 +45,8 @@ store_during schema tables books old mid new settles are same first later =
     then_during payloads forms books old mid new same (catalog_during payloads forms books old mid settles first)
     (subst (λ (ts : List TableDef). During mid new (StandsLeft payloads (map form_of ts) books mid.said)) are later)
 
--- a catalog that was read: its tables, and the gate behind their texts
-module _ (tables : List TableDef) (gate : ℕ) (old mid : FileId → FileState) (others : KeepsOthers catalog_log old mid) (holds : HoldsCatalog tables gate (old catalog_log).bytes (mid catalog_log)) where
+-- a catalog that was read, and the gate behind its texts
+module _ (catalog : Catalog) (gate : ℕ) (old mid : FileId → FileState) (others : KeepsOthers catalog_log old mid) (holds : HoldsCatalog catalog gate (old catalog_log).bytes (mid catalog_log)) where
   -- the logs of tables are as they were
   log_same : (table : ℕ) → 1 ≤ table → mid (table_log table) ≡ old (table_log table)
   log_same table some = others (table_log table) (other_table catalog_log table 0 (λ is. absurd (omega (arith, some, is))))
@@ -64,11 +66,11 @@ module _ (tables : List TableDef) (gate : ℕ) (old mid : FileId → FileState) 
   has_schema = record { lawful = holds.lawful; frames = holds.frames }
 
   -- damage of the first of its tables that is damaged
-  pub table_damaged : (damage : Damage) → IsFirstDamage tables (λ f. (mid f).bytes) damage → IsTableDamage (λ f. (old f).bytes) tables damage
+  pub table_damaged : (damage : Damage) → IsFirstDamage catalog.tables (λ f. (mid f).bytes) damage → IsTableDamage (λ f. (old f).bytes) catalog.tables damage
   table_damaged damage first = record {
     schema = holds.schema;
     has = has_schema;
-    tables_are = holds.tables_are;
+    tables_are = same_tables catalog (catalog_of holds.schema) holds.catalog_is;
     first = record {
       place = first.place;
       def = first.def;
@@ -88,42 +90,45 @@ module _ (tables : List TableDef) (gate : ℕ) (old mid : FileId → FileState) 
     ready : IsReady gate (map catalog_payload schema) (mid catalog_log)
     ready = subst (λ (s : List Accepted). IsReady gate (map catalog_payload s) (mid catalog_log)) (sym same_schema) holds.log
 
-    -- it has the schema's tables, and they still settle for it
-    pub are_tables : tables ≡ tables_of schema
-    are_tables = holds.tables_are ∙ ap tables_of (sym same_schema)
+    -- it is what the schema defines, and its tables still settle for it
+    is_catalog : catalog ≡ catalog_of schema
+    is_catalog = holds.catalog_is ∙ ap catalog_of (sym same_schema)
 
-    pub mid_settles : FilesSettle mid (map catalog_payload schema) (map form_of tables) books
+    pub are_tables : catalog.tables ≡ tables_of schema
+    are_tables = same_tables catalog (catalog_of schema) is_catalog
+
+    pub mid_settles : FilesSettle mid (map catalog_payload schema) (map form_of catalog.tables) books
     mid_settles =
         subst (λ (ts : List TableDef). FilesSettle mid (map catalog_payload schema) (map form_of ts) books) (sym are_tables)
         (settles_kept (map catalog_payload schema) (map form_of (tables_of schema)) books catalog_log refl (omega arith) old settles (map catalog_payload schema) settles.stands.catalog mid gate others ready)
 
     -- with its tables it is a store
-    pub holds_store : (store : Store) (new : FileId → FileState) → store.catalog.file ≡ catalog_log → store.catalog.gate ≡ gate → store.schema.tables ≡ tables → new catalog_log ≡ mid catalog_log
-        → EachTable (λ number def table. HoldsBook table new (books number)) 1 tables store.tables.items → FilesSettle new (map catalog_payload schema) (map form_of tables) books
-        → HoldsBooks store new (map catalog_payload schema) books × (store.schema.tables ≡ tables_of schema)
+    pub holds_store : (store : Store) (new : FileId → FileState) → store.catalog.file ≡ catalog_log → store.catalog.gate ≡ gate → store.schema.catalog ≡ catalog → new catalog_log ≡ mid catalog_log
+        → EachTable (λ number def table. HoldsBook table new (books number)) 1 catalog.tables store.tables.items → FilesSettle new (map catalog_payload schema) (map form_of catalog.tables) books
+        → HoldsBooks store new (map catalog_payload schema) books × (store.schema.catalog ≡ catalog_of schema)
     holds_store store new file place same kept each settled = (
       record {
         catalog = subst (λ (f : FileId). IsReady store.catalog.gate (map catalog_payload schema) (new f)) (sym file)
             (subst (λ (n : ℕ). IsReady n (map catalog_payload schema) (new catalog_log)) (sym place)
             (subst (λ (s : FileState). IsReady gate (map catalog_payload schema) s) (sym kept) ready));
-        tables = subst (λ (ts : List TableDef). EachTable (λ number def table. HoldsBook table new (books number)) 1 ts store.tables.items) (sym same) each;
-        others = λ table beyond. short_log (map catalog_payload schema) (map form_of tables) books new settled table (omega (arith, beyond, ap length same, length-map tables form_of));
+        tables = subst (λ (ts : List TableDef). EachTable (λ number def table. HoldsBook table new (books number)) 1 ts store.tables.items) (sym (same_tables store.schema.catalog catalog same)) each;
+        others = λ table beyond. short_log (map catalog_payload schema) (map form_of catalog.tables) books new settled table (omega (arith, beyond, ap length (same_tables store.schema.catalog catalog same), length-map catalog.tables form_of));
       },
-      same ∙ are_tables,
+      same ∙ is_catalog,
     )
 
   -- and it holds what its logs said
-  pub opens_as : (store : Store) (new : FileId → FileState) → store.catalog.file ≡ catalog_log → store.catalog.gate ≡ gate → store.schema.tables ≡ tables → new catalog_log ≡ mid catalog_log
-      → EachTable (OpensTable (λ f. (mid f).bytes) new) 1 tables store.tables.items → OpensAs store (λ f. (old f).bytes) new
+  pub opens_as : (store : Store) (new : FileId → FileState) → store.catalog.file ≡ catalog_log → store.catalog.gate ≡ gate → store.schema.catalog ≡ catalog → new catalog_log ≡ mid catalog_log
+      → EachTable (OpensTable (λ f. (mid f).bytes) new) 1 catalog.tables store.tables.items → OpensAs store (λ f. (old f).bytes) new
   opens_as store new file place same kept each = record {
     schema = holds.schema;
     has = has_schema;
-    tables_are = same ∙ holds.tables_are;
+    catalog_is = same ∙ holds.catalog_is;
     catalog = subst (λ (f : FileId). IsReady store.catalog.gate (map catalog_payload holds.schema) (new f)) (sym file)
         (subst (λ (n : ℕ). IsReady n (map catalog_payload holds.schema) (new catalog_log)) (sym place)
         (subst (λ (s : FileState). IsReady gate (map catalog_payload holds.schema) s) (sym kept) holds.log));
-    tables = subst (λ (ts : List TableDef). EachTable (OpensTable (λ f. (old f).bytes) new) 1 ts store.tables.items) (sym same)
-        (each-weaker (OpensTable (λ f. (mid f).bytes) new) (OpensTable (λ f. (old f).bytes) new) 1 tables store.tables.items
+    tables = subst (λ (ts : List TableDef). EachTable (OpensTable (λ f. (old f).bytes) new) 1 ts store.tables.items) (sym (same_tables store.schema.catalog catalog same))
+        (each-weaker (OpensTable (λ f. (mid f).bytes) new) (OpensTable (λ f. (old f).bytes) new) 1 catalog.tables store.tables.items
         (λ n def table low high is. record {
           commits = is.commits;
           holds = is.holds;

@@ -70,21 +70,21 @@ slice_set-same {X = X} (first ∷ xs) (suc i) x there = ap (λ (ys : List X). fi
 pub record TableOf (store : Store) (table : ℕ) (held : Table) : Type 0 where
   pub within : IsWithin store
   pub def : TableDef
-  pub defined : slice_get store.schema.tables (table - 1) ≡ Some def
+  pub defined : slice_get store.schema.catalog.tables (table - 1) ≡ Some def
   pub stands : slice_get store.tables.items (table - 1) ≡ Some held
   pub number : 1 + (table - 1) ≡ table
   pub held_as : IsHeldAs table def held
 
 pub items_within : (store : Store) (table : ℕ) → IsWithin store → IsTable store table → table - 1 < length store.tables.items
-items_within store table within is = omega (arith, is.first, is.last, each-length IsHeldAs 1 store.schema.tables store.tables.items within.tables)
+items_within store table within is = omega (arith, is.first, is.last, each-length IsHeldAs 1 store.schema.catalog.tables store.tables.items within.tables)
 
 -- the table that is read at its place
 pub table_of : (store : Store) (table : ℕ) (held : Table) → IsWithin store → IsTable store table → held ≡ get_or store.tables.items (table - 1) held → TableOf store table held
 table_of store table held within is read =
-    let def = def_there store.schema.tables (table - 1) (omega (arith, is.first, is.last)) in
+    let def = def_there store.schema.catalog.tables (table - 1) (omega (arith, is.first, is.last)) in
     let number : 1 + (table - 1) ≡ table = omega (arith, is.first) in
     let stands = slice_get_read store.tables.items (length store.tables.items) (table - 1) held refl (items_within store table within is) read in
-    let there = each-at IsHeldAs 1 (table - 1) store.schema.tables store.tables.items def.0 within.tables def.1 in
+    let there = each-at IsHeldAs 1 (table - 1) store.schema.catalog.tables store.tables.items def.0 within.tables def.1 in
     let same : there.table ≡ held = same_Some there.table held (sym there.stands ∙ stands) in
     record {
       within = within;
@@ -97,9 +97,9 @@ table_of store table held within is read =
 
 module _ (store : Store) (table : ℕ) (held : Table) (at : TableOf store table held) where
   -- what holds of each table holds of it
-  known : (P : ℕ → TableDef → Table → Type 0) → EachTable P 1 store.schema.tables store.tables.items → P table at.def held
+  known : (P : ℕ → TableDef → Table → Type 0) → EachTable P 1 store.schema.catalog.tables store.tables.items → P table at.def held
   known P each =
-      let there = each-at P 1 (table - 1) store.schema.tables store.tables.items at.def each at.defined in
+      let there = each-at P 1 (table - 1) store.schema.catalog.tables store.tables.items at.def each at.defined in
       let same : there.table ≡ held = same_Some there.table held (sym there.stands ∙ at.stands) in
       subst (λ (n : ℕ). P n at.def held) at.number (subst (P (1 + (table - 1)) at.def) same there.holds)
 
@@ -112,10 +112,10 @@ module _ (store : Store) (table : ℕ) (held : Table) (at : TableOf store table 
   pub its_place : (files : FileId → FileState) → IsPlaced store files → IsTablePlaced held files
   its_place files placed =
       (known (λ number def t. IsHeldAs number def t × IsTablePlaced t files)
-      (each-with-all IsHeldAs (λ t. IsTablePlaced t files) 1 store.schema.tables store.tables.items at.within.tables placed.tables)).1
+      (each-with-all IsHeldAs (λ t. IsTablePlaced t files) 1 store.schema.catalog.tables store.tables.items at.within.tables placed.tables)).1
 
   -- it has the form of the definition that stands there
-  pub its_form : (def : TableDef) → slice_get store.schema.tables (table - 1) ≡ Some def → held_form held ≡ form_of def
+  pub its_form : (def : TableDef) → slice_get store.schema.catalog.tables (table - 1) ≡ Some def → held_form held ≡ form_of def
   its_form def there = at.held_as.1.form_is ∙ ap form_of (same_Some at.def def (sym at.defined ∙ there))
 
   pub its_window : window_of store table ≡ (held_form held).window
@@ -125,14 +125,14 @@ module _ (store : Store) (table : ℕ) (held : Table) (at : TableOf store table 
   its_state = get_or_from_slice_get (states_of store) (table - 1) (held_state held) no_state (slice_get-map held_state store.tables.items (table - 1) ∙ ap (option_map held_state) at.stands)
 
   -- what is told of its parts is told by the number and the definition
-  pub whole_of : (def : TableDef) → slice_get store.schema.tables (table - 1) ≡ Some def → (files : Image) → ArePartsWhole held.number (held_form held) (held_state held).layout files
+  pub whole_of : (def : TableDef) → slice_get store.schema.catalog.tables (table - 1) ≡ Some def → (files : Image) → ArePartsWhole held.number (held_form held) (held_state held).layout files
       → ArePartsWhole table (form_of def) (state_of store table).layout files
   whole_of def there files whole =
       subst (λ (n : ℕ). ArePartsWhole n (form_of def) (state_of store table).layout files) at.held_as.1.number_is
       (subst (λ (f : TableForm). ArePartsWhole held.number f (state_of store table).layout files) (its_form def there)
       (subst (λ (s : State). ArePartsWhole held.number (held_form held) s.layout files) (sym its_state) whole))
 
-  pub damage_of : (def : TableDef) → slice_get store.schema.tables (table - 1) ≡ Some def → (files : Image) (damage : Damage) → IsPartDamage held.number (held_form held) (held_state held).layout files damage
+  pub damage_of : (def : TableDef) → slice_get store.schema.catalog.tables (table - 1) ≡ Some def → (files : Image) (damage : Damage) → IsPartDamage held.number (held_form held) (held_state held).layout files damage
       → IsPartDamage table (form_of def) (state_of store table).layout files damage
   damage_of def there files damage is =
       subst (λ (n : ℕ). IsPartDamage n (form_of def) (state_of store table).layout files damage) at.held_as.1.number_is
@@ -140,8 +140,8 @@ module _ (store : Store) (table : ℕ) (held : Table) (at : TableOf store table 
       (subst (λ (s : State). IsPartDamage held.number (held_form held) s.layout files damage) (sym its_state) is))
 
   -- its number is that of a table
-  pub its_number : (1 ≤ table) × (table ≤ length store.schema.tables)
-  its_number = (omega (arith, at.number), omega (arith, at.number, slice_get_within store.schema.tables (table - 1) at.def at.defined))
+  pub its_number : (1 ≤ table) × (table ≤ length store.schema.catalog.tables)
+  its_number = (omega (arith, at.number), omega (arith, at.number, slice_get_within store.schema.catalog.tables (table - 1) at.def at.defined))
 
   apart_catalog : store.catalog.file.table ≢ table
   apart_catalog same = let e : store.catalog.file.table ≡ 0 = ap (λ (f : FileId). f.table) at.within.catalog in omega (arith, same, e, its_number.0)
@@ -154,8 +154,8 @@ module _ (store : Store) (table : ℕ) (held : Table) (at : TableOf store table 
         (catalog_left store files payloads old at.within holds image (elsewhere store.catalog.file apart_catalog));
     tables = λ p form there. elim (cases_eq (p + 1) table) as (λ _. TableStands image (p + 1) form (new (p + 1))) [
       | inl one ↦
-          let def = form_at store.schema.tables p form there in
-          let here : slice_get store.schema.tables (table - 1) ≡ Some def.0 = ap (slice_get store.schema.tables) (omega (arith, one)) ∙ def.1 in
+          let def = form_at store.schema.catalog.tables p form there in
+          let here : slice_get store.schema.catalog.tables (table - 1) ≡ Some def.0 = ap (slice_get store.schema.catalog.tables) (omega (arith, one)) ∙ def.1 in
           let same : form_of at.def ≡ form = ap form_of (same_Some at.def def.0 (sym at.defined ∙ here)) ∙ def.2 in
           subst (λ (n : ℕ). TableStands image n form (new n)) (sym one) (subst (λ (f : TableForm). TableStands image table f (new table)) same stands)
       | inr other ↦
@@ -172,11 +172,11 @@ module _ (store : Store) (table : ℕ) (held : Table) (at : TableOf store table 
     now = record { catalog = store.catalog; schema = store.schema; tables = tables }
 
     -- what holds of each table, from what held of each of the others
-    each_now : (P Q : ℕ → TableDef → Table → Type 0) → ((n : ℕ) (def : TableDef) (t : Table) → n ≢ table → P n def t → Q n def t) → EachTable P 1 store.schema.tables store.tables.items → Q table at.def new
-        → EachTable Q 1 store.schema.tables tables.items
+    each_now : (P Q : ℕ → TableDef → Table → Type 0) → ((n : ℕ) (def : TableDef) (t : Table) → n ≢ table → P n def t → Q n def t) → EachTable P 1 store.schema.catalog.tables store.tables.items → Q table at.def new
+        → EachTable Q 1 store.schema.catalog.tables tables.items
     each_now P Q others each its =
-        subst (EachTable Q 1 store.schema.tables) (sym items)
-        (each-set P Q 1 (table - 1) store.schema.tables store.tables.items at.def new (λ n def t low high other is. others n def t (λ same. other (same ∙ sym at.number)) is)
+        subst (EachTable Q 1 store.schema.catalog.tables) (sym items)
+        (each-set P Q 1 (table - 1) store.schema.catalog.tables store.tables.items at.def new (λ n def t low high other is. others n def t (λ same. other (same ∙ sym at.number)) is)
         at.defined each (subst (λ (n : ℕ). Q n at.def new) (sym at.number) its))
 
     pub set_within : IsHeldAs table at.def new → IsWithin now
@@ -210,9 +210,9 @@ module _ (store : Store) (table : ℕ) (held : Table) (at : TableOf store table 
           let After = (λ (n : ℕ) (def : TableDef) (t : Table). IsTablePlaced t after) in
           record {
             catalog = subst (λ (s : FileState). store.catalog.gate < length s.bytes) (sym catalog_same) placed.catalog;
-            tables = each-all After (λ t. IsTablePlaced t after) 1 store.schema.tables tables.items (λ n def t is. is)
+            tables = each-all After (λ t. IsTablePlaced t after) 1 store.schema.catalog.tables tables.items (λ n def t is. is)
                 (each_now Before After (λ n def t other was. placed_kept before after n def t (same_files n other) was.0 was.1)
-                (each-with-all IsHeldAs (λ t. IsTablePlaced t before) 1 store.schema.tables store.tables.items at.within.tables placed.tables) its);
+                (each-with-all IsHeldAs (λ t. IsTablePlaced t before) 1 store.schema.catalog.tables store.tables.items at.within.tables placed.tables) its);
           }
 
       pub set_books : (payloads : List (List ℕ)) (old books : ℕ → Book) → ((n : ℕ) → n ≢ table → books n ≡ old n) → HoldsBooks store before payloads old → HoldsBook new after (books table) → HoldsBooks now after payloads books
@@ -230,7 +230,7 @@ module _ (store : Store) (table : ℕ) (held : Table) (at : TableOf store table 
         tables = each_now (λ n def t. IsHeldAs n def t × HoldsCommits t before (old n)) (λ n def t. HoldsCommits t after (commits n))
             (λ n def t other was. subst (HoldsCommits t after) (sym (others n other))
             (holds_commits_kept t before after (old n) (same_files n other t.log.file (log_number n def t was.0)) was.1))
-            (each-both IsHeldAs (λ n def t. HoldsCommits t before (old n)) 1 store.schema.tables store.tables.items at.within.tables holds.tables) its;
+            (each-both IsHeldAs (λ n def t. HoldsCommits t before (old n)) 1 store.schema.catalog.tables store.tables.items at.within.tables holds.tables) its;
       }
 
     -- where it takes room for one delivery, each table has room for one less

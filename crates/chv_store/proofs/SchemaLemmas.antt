@@ -2,77 +2,78 @@
 use Rattle.std.proofs.Common.{◌≡◌, ℕ, List, [], ◌∷◌, ◌++◌, map, get_or, drop, true, refl, sym, ap, ap₂, subst, append_assoc}
 use Rattle.std.proofs.lemmas.List.{append-nil}
 use Rattle.chv_ast.specs.declared.statement.Statement.{Statement}
+use Rattle.chv_catalog.specs.Schemas.{Catalog, no_definitions}
 use Rattle.chv_catalog.specs.declared.table_def.TableDef.{TableDef}
-use Rattle.chv_define.specs.Accepted.{Accepted, AreAccepted, AreTexts, Definition, Defines, IsAccepted, IsSchema, Table as Makes, catalog_payload, is_built_create, tables_in, tables_of}
-use Rattle.chv_define.proofs.AcceptedLemmas.{Defines-unique}
+use Rattle.chv_query.specs.Accepted.{Accepted, AreAccepted, AreTexts, Definition, Defines, IsAccepted, IsSchema, Table as Makes, catalog_of, catalog_payload, is_built_create, tables_in, tables_of, with_definition}
+use Rattle.chv_query.proofs.AcceptedLemmas.{Defines-unique, with_schema}
 use Rattle.chv_store.specs.Openings.{MakesTable}
 use Rattle.chv_store.proofs.DefineLemmas.{statement_read}
 use Rattle.chv_store.proofs.ReadingLemmas.{read_back}
 
 -- an accepted text is that of one statement
-text_unique : (tables : List TableDef) (a b : Accepted) → IsAccepted tables a → IsAccepted tables b → catalog_payload a ≡ catalog_payload b → a ≡ b
-text_unique tables a b lawful other same =
+text_unique : (catalog : Catalog) (a b : Accepted) → IsAccepted catalog a → IsAccepted catalog b → catalog_payload a ≡ catalog_payload b → a ≡ b
+text_unique catalog a b lawful other same =
     let one = statement_read (catalog_payload a) a.statement b.statement (read_back a.statement lawful.formed) other.formed same in
     ap₂ (λ (s : Statement) (d : Definition). record { statement = s; definition = d }) one
-    (Defines-unique tables b.statement a.definition b.definition (subst (λ (s : Statement). Defines tables s a.definition) one lawful.defines) other.defines)
+    (Defines-unique catalog b.statement a.definition b.definition (subst (λ (s : Statement). Defines catalog s a.definition) one lawful.defines) other.defines)
 
 -- an accepted statement that is built makes a table
-made_by : (tables : List TableDef) (s : Statement) (d : Definition) → is_built_create s ≡ true → IsAccepted tables (record { statement = s; definition = d }) → (def : TableDef) × MakesTable tables s def
-made_by tables s (Makes def) built is = (def, record { built = built; passes = is })
+made_by : (catalog : Catalog) (s : Statement) (d : Definition) → is_built_create s ≡ true → IsAccepted catalog (record { statement = s; definition = d }) → (def : TableDef) × MakesTable catalog s def
+made_by catalog s (Makes def) built is = (def, record { built = built; passes = is })
 
 -- statements that are accepted one after the other stay so where those behind another are the ones meant
-same_next : (tables : List TableDef) (a b : Accepted) (schema : List Accepted) → a ≡ b → AreAccepted (tables ++ tables_in b.definition) schema → AreAccepted (tables ++ tables_in a.definition) schema
-same_next tables a b schema same are = subst (λ (s : Accepted). AreAccepted (tables ++ tables_in s.definition) schema) (sym same) are
+same_next : (catalog : Catalog) (a b : Accepted) (schema : List Accepted) → a ≡ b → AreAccepted (with_definition catalog b.definition) schema → AreAccepted (with_definition catalog a.definition) schema
+same_next catalog a b schema same are = subst (λ (s : Accepted). AreAccepted (with_definition catalog s.definition) schema) (sym same) are
 
 -- schemas whose texts are the same are the same
-accepted_unique : (tables : List TableDef) (xs ys : List Accepted) → AreAccepted tables xs → AreAccepted tables ys → map catalog_payload xs ≡ map catalog_payload ys → xs ≡ ys
-accepted_unique tables [] [] of_xs of_ys same = refl
-accepted_unique tables [] (y ∷ ys) of_xs of_ys same = cc
-accepted_unique tables (x ∷ xs) [] of_xs of_ys same = cc
-accepted_unique tables (x ∷ xs) (y ∷ ys) of_xs of_ys same =
+accepted_unique : (catalog : Catalog) (xs ys : List Accepted) → AreAccepted catalog xs → AreAccepted catalog ys → map catalog_payload xs ≡ map catalog_payload ys → xs ≡ ys
+accepted_unique catalog [] [] of_xs of_ys same = refl
+accepted_unique catalog [] (y ∷ ys) of_xs of_ys same = cc
+accepted_unique catalog (x ∷ xs) [] of_xs of_ys same = cc
+accepted_unique catalog (x ∷ xs) (y ∷ ys) of_xs of_ys same =
     let text : catalog_payload x ≡ catalog_payload y = cc in
     let texts : map catalog_payload xs ≡ map catalog_payload ys = cc in
-    let first = text_unique tables x y of_xs.1 of_ys.1 text in
-    ap₂ (λ (a : Accepted) (l : List Accepted). a ∷ l) first (accepted_unique (tables ++ tables_in x.definition) xs ys of_xs.2 (same_next tables x y ys first of_ys.2) texts)
+    let first = text_unique catalog x y of_xs.1 of_ys.1 text in
+    ap₂ (λ (a : Accepted) (l : List Accepted). a ∷ l) first (accepted_unique (with_definition catalog x.definition) xs ys of_xs.2 (same_next catalog x y ys first of_ys.2) texts)
 
 pub schema_unique : (xs ys : List Accepted) → IsSchema xs → IsSchema ys → map catalog_payload xs ≡ map catalog_payload ys → xs ≡ ys
-schema_unique xs ys of_xs of_ys same = accepted_unique [] xs ys of_xs of_ys same
+schema_unique xs ys of_xs of_ys same = accepted_unique no_definitions xs ys of_xs of_ys same
 
 -- the first texts of a schema are those of its first statements
-first_texts : (tables : List TableDef) (xs ys : List (List ℕ)) (schema : List Accepted) → xs ++ ys ≡ map catalog_payload schema → AreAccepted tables schema
-    → (front : List Accepted) × (xs ≡ map catalog_payload front) × AreAccepted tables front
-first_texts tables [] ys schema same are = ([], refl, tt)
-first_texts tables (x ∷ xs) ys [] same are = absurd (cc same)
-first_texts tables (x ∷ xs) ys (accepted ∷ schema) same are =
-    let rest = first_texts (tables ++ tables_in accepted.definition) xs ys schema (ap (λ (l : List (List ℕ)). drop 1 l) same) are.2 in
+first_texts : (catalog : Catalog) (xs ys : List (List ℕ)) (schema : List Accepted) → xs ++ ys ≡ map catalog_payload schema → AreAccepted catalog schema
+    → (front : List Accepted) × (xs ≡ map catalog_payload front) × AreAccepted catalog front
+first_texts catalog [] ys schema same are = ([], refl, tt)
+first_texts catalog (x ∷ xs) ys [] same are = absurd (cc same)
+first_texts catalog (x ∷ xs) ys (accepted ∷ schema) same are =
+    let rest = first_texts (with_definition catalog accepted.definition) xs ys schema (ap (λ (l : List (List ℕ)). drop 1 l) same) are.2 in
     (accepted ∷ rest.0, ap₂ (λ (p : List ℕ) (ps : List (List ℕ)). p ∷ ps) (ap (λ (l : List (List ℕ)). get_or l 0 []) same) rest.1, (are.0, are.1, rest.2))
 
 -- texts that are right stay so where the end of their list is left out
 pub front-AreTexts : (xs ys : List (List ℕ)) → AreTexts (xs ++ ys) → AreTexts xs
 front-AreTexts xs ys right =
-    let front = first_texts [] xs ys right.schema right.are right.lawful in
+    let front = first_texts no_definitions xs ys right.schema right.are right.lawful in
     record { schema = front.0; are = front.1; lawful = front.2 }
 
--- a text that is that of a statement which makes a table beside these
-abbrev pub IsNextText : List TableDef → List ℕ → Type 0
-IsNextText tables payload = (accepted : Accepted) × (is_built_create accepted.statement ≡ true) × IsAccepted tables accepted × (payload ≡ catalog_payload accepted)
+-- a text that is that of a statement which is accepted beside what is defined
+abbrev pub IsNextText : Catalog → List ℕ → Type 0
+IsNextText catalog payload = (accepted : Accepted) × (is_built_create accepted.statement ≡ true) × IsAccepted catalog accepted × (payload ≡ catalog_payload accepted)
 
--- behind the texts of a schema, a text that is right is that of a statement that is accepted beside its tables
-next_text : (tables : List TableDef) (schema all : List Accepted) (payload : List ℕ) → AreAccepted tables schema → AreAccepted tables all → map catalog_payload schema ++ payload ∷ [] ≡ map catalog_payload all
-    → IsNextText (tables ++ tables_of schema) payload
-next_text tables [] [] payload are others same = absurd (cc same)
-next_text tables [] (accepted ∷ all) payload are others same =
-    (accepted, others.0, subst (λ (ts : List TableDef). IsAccepted ts accepted) (sym (append-nil tables)) others.1, ap (λ (l : List (List ℕ)). get_or l 0 []) same)
-next_text tables (first ∷ schema) [] payload are others same = absurd (cc same)
-next_text tables (first ∷ schema) (other ∷ all) payload are others same =
-    let one = text_unique tables first other are.1 others.1 (ap (λ (l : List (List ℕ)). get_or l 0 []) same) in
-    let last = next_text (tables ++ tables_in first.definition) schema all payload are.2 (same_next tables first other all one others.2) (ap (λ (l : List (List ℕ)). drop 1 l) same) in
-    (last.0, last.1, subst (λ (ts : List TableDef). IsAccepted ts last.0) (append_assoc tables (tables_in first.definition) (tables_of schema)) last.2, last.3)
+-- behind the texts of a schema, a text that is right is that of a statement that is accepted beside what it defines
+next_text : (catalog : Catalog) (schema all : List Accepted) (payload : List ℕ) → AreAccepted catalog schema → AreAccepted catalog all → map catalog_payload schema ++ payload ∷ [] ≡ map catalog_payload all
+    → IsNextText (with_schema catalog schema) payload
+next_text catalog [] [] payload are others same = absurd (cc same)
+next_text catalog [] (accepted ∷ all) payload are others same =
+    (accepted, others.0, subst (λ (ts : List TableDef). IsAccepted (record catalog { tables = ts }) accepted) (sym (append-nil catalog.tables)) others.1, ap (λ (l : List (List ℕ)). get_or l 0 []) same)
+next_text catalog (first ∷ schema) [] payload are others same = absurd (cc same)
+next_text catalog (first ∷ schema) (other ∷ all) payload are others same =
+    let one = text_unique catalog first other are.1 others.1 (ap (λ (l : List (List ℕ)). get_or l 0 []) same) in
+    let last = next_text (with_definition catalog first.definition) schema all payload are.2 (same_next catalog first other all one others.2) (ap (λ (l : List (List ℕ)). drop 1 l) same) in
+    (last.0, last.1, subst (λ (ts : List TableDef). IsAccepted (record catalog { tables = ts }) last.0) (append_assoc catalog.tables (tables_in first.definition) (tables_of schema)) last.2, last.3)
 
 -- and makes a table there
 pub next-AreTexts : (schema : List Accepted) (payload : List ℕ) → IsSchema schema → AreTexts (map catalog_payload schema ++ payload ∷ [])
-    → (accepted : Accepted) × (def : TableDef) × MakesTable (tables_of schema) accepted.statement def × (payload ≡ catalog_payload accepted)
+    → (accepted : Accepted) × (def : TableDef) × MakesTable (catalog_of schema) accepted.statement def × (payload ≡ catalog_payload accepted)
 next-AreTexts schema payload lawful right =
-    let next = next_text [] schema right.schema payload lawful right.lawful right.are in
-    let made = made_by (tables_of schema) next.0.statement next.0.definition next.1 next.2 in
+    let next = next_text no_definitions schema right.schema payload lawful right.lawful right.are in
+    let made = made_by (catalog_of schema) next.0.statement next.0.definition next.1 next.2 in
     (next.0, made.0, made.1, next.3)

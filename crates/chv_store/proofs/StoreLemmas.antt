@@ -28,17 +28,17 @@ form_at (def ∷ defs) zero form at = (def, refl, same_Some (form_of def) form a
 form_at (def ∷ defs) (suc place) form at = form_at defs place form at
 
 -- there are as many forms as tables
-pub forms-length : (store : Store) → length (forms_of store) ≡ length store.schema.tables
-forms-length store = length-map store.schema.tables form_of
+pub forms-length : (store : Store) → length (forms_of store) ≡ length store.schema.catalog.tables
+forms-length store = length-map store.schema.catalog.tables form_of
 
 -- the numbers held of a table are those of its definition, and with its files it stands for the book of its number
 abbrev pub IsHeldWith : (FileId → FileState) → (ℕ → Book) → ℕ → TableDef → Table → Type 0
 IsHeldWith files books number def table = IsHeldAs number def table × HoldsBook table files (books number)
 
 pub each-held : (store : Store) (files : FileId → FileState) (payloads : List (List ℕ)) (books : ℕ → Book) → IsWithin store → HoldsBooks store files payloads books
-    → EachTable (IsHeldWith files books) 1 store.schema.tables store.tables.items
+    → EachTable (IsHeldWith files books) 1 store.schema.catalog.tables store.tables.items
 each-held store files payloads books within held =
-    each-both IsHeldAs (λ number def table. HoldsBook table files (books number)) 1 store.schema.tables store.tables.items within.tables held.tables
+    each-both IsHeldAs (λ number def table. HoldsBook table files (books number)) 1 store.schema.catalog.tables store.tables.items within.tables held.tables
 
 -- a table holds its book as long as its own files are as they were
 pub book_kept : (old new : FileId → FileState) (number : ℕ) (def : TableDef) (table : Table) (book : Book) → ((f : FileId) → f.table ≡ number → new f ≡ old f) → IsHeldAs number def table → HoldsBook table old book → HoldsBook table new book
@@ -73,8 +73,8 @@ module _ (store : Store) (files : FileId → FileState) (payloads : List (List �
   -- the files of one table of a store stand for its book, where a crash leaves them so
   pub table_stands : (place : ℕ) (form : TableForm) → slice_get (forms_of store) place ≡ Some form → ((f : FileId) → f.table ≡ place + 1 → IsFileImage (files f) (image f)) → TableStands image (place + 1) form (books (place + 1))
   table_stands place form at is =
-      let def = form_at store.schema.tables place form at in
-      let there = each-at (IsHeldWith files books) 1 place store.schema.tables store.tables.items def.0 (each-held store files payloads books within held) def.1 in
+      let def = form_at store.schema.catalog.tables place form at in
+      let there = each-at (IsHeldWith files books) 1 place store.schema.catalog.tables store.tables.items def.0 (each-held store files payloads books within held) def.1 in
       let number : 1 + place ≡ place + 1 = omega arith in
       subst (λ (f : TableForm). TableStands image (place + 1) f (books (place + 1))) def.2
       (held_left files image books (place + 1) def.0 there.table (subst (λ (n : ℕ). IsHeldWith files books n def.0 there.table) number there.holds) is)

@@ -2,7 +2,7 @@
 use Rattle.std.specs.Prelude.{ℕ, ◌≡◌, ◌⊎◌, ◌+◌, ◌<◌, List, map, Some, slice_get}
 use Rattle.chv_catalog.specs.declared.table_def.TableDef.{TableDef}
 use Rattle.chv_commit.specs.Replays.{State, AreCommits}
-use Rattle.chv_define.specs.Accepted.{Accepted, tables_of, IsSchema, AreTexts, catalog_payload}
+use Rattle.chv_query.specs.Accepted.{Accepted, tables_of, IsSchema, AreTexts, catalog_payload}
 use Rattle.chv_gate.specs.GateLog.{HasFrames}
 use Rattle.chv_gate.specs.Reading.{IsDamagedAt}
 use Rattle.chv_part.specs.declared.damage.Damage.{Damage}

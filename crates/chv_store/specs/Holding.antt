@@ -23,13 +23,13 @@ with_book table book books = with_one table book books
 -- has a log of which a crash leaves more than a torn gate
 pub record HoldsBooks (store : Store) (files : FileId → FileState) (payloads : List (List ℕ)) (books : ℕ → Book) : Type 0 where
   pub catalog : IsReady store.catalog.gate payloads (files store.catalog.file)
-  pub tables : EachTable (λ number def table. HoldsBook table files (books number)) 1 store.schema.tables store.tables.items
-  pub others : (table : ℕ) → length store.schema.tables < table → (files (table_log table)).most ≤ 1
+  pub tables : EachTable (λ number def table. HoldsBook table files (books number)) 1 store.schema.catalog.tables store.tables.items
+  pub others : (table : ℕ) → length store.schema.catalog.tables < table → (files (table_log table)).most ≤ 1
 
 -- and with no word on parts: each table's log is ready behind its commits, which say what is held
 pub record HoldsLogs (store : Store) (files : FileId → FileState) (payloads : List (List ℕ)) (commits : ℕ → List Commit) : Type 0 where
   pub catalog : IsReady store.catalog.gate payloads (files store.catalog.file)
-  pub tables : EachTable (λ number def table. HoldsCommits table files (commits number)) 1 store.schema.tables store.tables.items
+  pub tables : EachTable (λ number def table. HoldsCommits table files (commits number)) 1 store.schema.catalog.tables store.tables.items
 
 -- before a store is opened: its files stand for payloads, forms and books, and nothing is pending
 pub record FilesSettle (files : FileId → FileState) (payloads : List (List ℕ)) (forms : List TableForm) (books : ℕ → Book) : Type 0 where

@@ -1,16 +1,17 @@
 -- What the opening of a store finds.
 use Rattle.std.specs.Prelude.{ℕ, ◌≡◌, ◌⊎◌, true, List, map, Option, None, Some, Result, Ok, Err}
 use Rattle.chv_ast.specs.declared.statement.Statement.{Statement}
+use Rattle.chv_catalog.specs.Schemas.{Catalog}
 use Rattle.chv_catalog.specs.declared.table_def.TableDef.{TableDef}
 use Rattle.chv_commit.specs.Commits.{commit_spelling}
 use Rattle.chv_commit.specs.declared.commit.Commit.{Commit}
-use Rattle.chv_define.specs.Accepted.{Accepted, Table as Makes, IsAccepted, IsSchema, is_built_create, tables_of, catalog_payload}
+use Rattle.chv_query.specs.Accepted.{Accepted, Table as Makes, IsAccepted, IsSchema, is_built_create, catalog_of, catalog_payload}
 use Rattle.chv_gate.specs.GateLog.{HasFrames, IsReady}
 use Rattle.chv_gate.specs.Reading.{IsOpen, IsFollowed}
 use Rattle.chv_gate.specs.declared.fault.GateFault.{GateFault}
 use Rattle.chv_gate.specs.declared.fault.GateFault.TheVariants as gate_fault
 use Rattle.chv_part.specs.declared.damage.Damage.{Damage}
-use Rattle.chv_part.specs.declared.damage.Damage.TheVariants.{Catalog}
+use Rattle.chv_part.specs.declared.damage.Damage.TheVariants as damaged
 use Rattle.chv_print.specs.StatementTexts.{statement_text}
 use Rattle.chv_site.specs.FileIds.{catalog_log, table_log}
 use Rattle.chv_site.specs.Files.{FileState}
@@ -26,36 +27,36 @@ use Rattle.chv_store.specs.declared.catalog.TableRead.{TableRead}
 use Rattle.chv_store.specs.declared.fault.OpenFault.{OpenFault}
 use Rattle.chv_store.specs.declared.store.Store.{Store}
 
--- a statement makes this table beside those of a catalog: it is built, and no check refuses it
-pub record MakesTable (tables : List TableDef) (create : Statement) (def : TableDef) : Type 0 where
+-- a statement makes this table beside what a catalog has: it is built, and no check refuses it
+pub record MakesTable (catalog : Catalog) (create : Statement) (def : TableDef) : Type 0 where
   pub built : is_built_create create ≡ true
-  pub passes : IsAccepted tables (record { statement = create; definition = Makes def })
+  pub passes : IsAccepted catalog (record { statement = create; definition = Makes def })
 
--- what is read behind a gate of the catalog's log, beside the tables that stand: the end, at a gate that is not open; else
+-- what is read behind a gate of the catalog's log, beside what is defined: the end, at a gate that is not open; else
 -- the table that a statement makes, whose text follows that gate, and the next gate
-abbrev pub ReadsTable : List TableDef → ℕ → List ℕ → Option TableRead → Type 0
-ReadsTable tables gate file None = IsOpen gate file → ⊥
-ReadsTable tables gate file (Some read) =
-    (create : Statement) × MakesTable tables create read.def × IsOpen gate file × IsFollowed gate (statement_text create) read.next file
+abbrev pub ReadsTable : Catalog → ℕ → List ℕ → Option TableRead → Type 0
+ReadsTable catalog gate file None = IsOpen gate file → ⊥
+ReadsTable catalog gate file (Some read) =
+    (create : Statement) × MakesTable catalog create read.def × IsOpen gate file × IsFollowed gate (statement_text create) read.next file
 
--- no text of a statement that makes a table beside these follows an open gate
-pub record LacksTable (tables : List TableDef) (gate : ℕ) (file : List ℕ) : Type 0 where
+-- no text of a statement that makes a table there follows an open gate
+pub record LacksTable (catalog : Catalog) (gate : ℕ) (file : List ℕ) : Type 0 where
   pub opened : IsOpen gate file
-  pub none : (create : Statement) (def : TableDef) (next : ℕ) → MakesTable tables create def → IsFollowed gate (statement_text create) next file → ⊥
+  pub none : (create : Statement) (def : TableDef) (next : ℕ) → MakesTable catalog create def → IsFollowed gate (statement_text create) next file → ⊥
 
--- the tables are those of a catalog: before and now its log has the texts of their schema, and at this gate it is ready
+-- this is what a catalog has: before and now its log has the texts of the schema that defines it, and at this gate it is ready
 -- behind them
-pub record HoldsCatalog (tables : List TableDef) (gate : ℕ) (before : List ℕ) (now : FileState) : Type 0 where
+pub record HoldsCatalog (catalog : Catalog) (gate : ℕ) (before : List ℕ) (now : FileState) : Type 0 where
   pub schema : List Accepted
   pub lawful : IsSchema schema
-  pub tables_are : tables ≡ tables_of schema
+  pub catalog_is : catalog ≡ catalog_of schema
   pub frames : HasFrames (map catalog_payload schema) before
   pub log : IsReady gate (map catalog_payload schema) now
 
 -- why the catalog's log was not read on
 abbrev pub catalog_fault_of : GateFault → TableFault
 catalog_fault_of gate_fault.Failed = table_fault.Failed
-catalog_fault_of (gate_fault.Damaged at) = table_fault.Damaged (Catalog at)
+catalog_fault_of (gate_fault.Damaged at) = table_fault.Damaged (damaged.Catalog at)
 catalog_fault_of gate_fault.NoMemory = table_fault.NoMemory
 
 -- a table that is opened holds the commits that its log has
@@ -68,9 +69,9 @@ pub record OpensTable (old : Image) (new : FileId → FileState) (number : ℕ) 
 pub record OpensAs (store : Store) (old : Image) (new : FileId → FileState) : Type 0 where
   pub schema : List Accepted
   pub has : HasSchema old schema
-  pub tables_are : store.schema.tables ≡ tables_of schema
+  pub catalog_is : store.schema.catalog ≡ catalog_of schema
   pub catalog : IsReady store.catalog.gate (map catalog_payload schema) (new store.catalog.file)
-  pub tables : EachTable (OpensTable old new) 1 store.schema.tables store.tables.items
+  pub tables : EachTable (OpensTable old new) 1 store.schema.catalog.tables store.tables.items
 
 -- a store was not opened, since a call of the site failed
 abbrev pub FailsOpening : Result Store OpenFault → Type 0
@@ -80,4 +81,4 @@ FailsOpening (Err why) = why.fault ≡ table_fault.Failed
 -- why a store was not opened: where a log is damaged, the fault has the tables of the catalog for which it was read
 abbrev pub IsOpeningFault : Image → OpenFault → Type 0
 IsOpeningFault files why = (damage : Damage) → why.fault ≡ table_fault.Damaged damage
-    → IsCatalogDamage (files catalog_log) damage ⊎ IsTableDamage files why.schema.tables damage
+    → IsCatalogDamage (files catalog_log) damage ⊎ IsTableDamage files why.schema.catalog.tables damage

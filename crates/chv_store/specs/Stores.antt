@@ -34,9 +34,9 @@ MAX_STEP = 1048581
 -- the numbers that are held of a store, whatever its files hold
 pub record IsWithin (store : Store) : Type 0 where
   pub catalog : store.catalog.file ≡ catalog_log
-  pub few : length store.schema.tables ≤ MAX_DEFINITIONS
-  pub gate : store.catalog.gate ≤ MAX_STEP * length store.schema.tables
-  pub tables : EachTable IsHeldAs 1 store.schema.tables store.tables.items
+  pub few : length store.schema.catalog.tables ≤ MAX_DEFINITIONS
+  pub gate : store.catalog.gate ≤ MAX_STEP * length store.schema.catalog.tables
+  pub tables : EachTable IsHeldAs 1 store.schema.catalog.tables store.tables.items
 
 -- the standing gate of each log is in its file, whatever the files hold
 pub record IsPlaced (store : Store) (files : FileId → FileState) : Type 0 where
@@ -51,7 +51,7 @@ pub record IsUsable (tells : Type 0) (store : Store) (outside : Outside) : Type 
 -- the number is that of a table of the store
 pub record IsTable (store : Store) (table : ℕ) : Type 0 where
   pub first : 1 ≤ table
-  pub last : table ≤ length store.schema.tables
+  pub last : table ≤ length store.schema.catalog.tables
 
 -- what is held of the tables' logs, in the order of their numbers
 abbrev pub states_of : Store → List State
@@ -63,7 +63,7 @@ state_of store table = get_or (states_of store) (table - 1) no_state
 
 -- the forms of the tables, in the order of their numbers
 abbrev pub forms_of : Store → List TableForm
-forms_of store = map form_of store.schema.tables
+forms_of store = map form_of store.schema.catalog.tables
 
 -- how many ids the window of a table has, where it stands
 abbrev pub window_in : Option TableDef → ℕ
@@ -72,7 +72,7 @@ window_in (Some def) = def.window
 
 -- how many ids the window of the table of a number has
 abbrev pub window_of : Store → ℕ → ℕ
-window_of store table = window_in (slice_get store.schema.tables (table - 1))
+window_of store table = window_in (slice_get store.schema.catalog.tables (table - 1))
 
 -- the table of a number has room for so many deliveries
 pub record HasRoom (count : ℕ) (store : Store) (table : ℕ) : Type 0 where

@@ -2,7 +2,7 @@
 ghost use Rattle.std.specs.Prelude.{◌≡◌, ◌+◌, ◌*◌, ◌≤◌, List, ℕ, length, [], IfOk, IfSome, OnOk, IsErrOf};
 ghost use Rattle.std.specs.List.{All};
 ghost use Rattle.chv_ast.specs.declared.statement.Statement.{Statement};
-ghost use Rattle.chv_catalog.specs.Schemas.{MAX_DEFINITIONS, kinds_of};
+ghost use Rattle.chv_catalog.specs.Schemas.{MAX_DEFINITIONS, kinds_of, no_definitions};
 ghost use Rattle.chv_gate.specs.Crashes.{Leaves, LeavesFrames};
 ghost use Rattle.chv_gate.specs.GateLog.{HasFrames, frame_of};
 ghost use Rattle.chv_part.specs.Books.{AreColumns};
@@ -29,12 +29,12 @@ pub fn open_catalog<W: Site>(
     site: &mut W,
     schema: &mut Schema,
 ) -> Result<Log, TableFault>
-    requires { schema.old.tables ≡ [] }
+    requires { schema.old.catalog ≡ no_definitions }
     // On any site: the tables have columns, are few, and have moved the gate of the catalog's log by so much at most.
-    ensures log { IfOk result (λ log. (log.file ≡ catalog_log) × (log.gate ≤ MAX_STEP * length schema.new.tables)) }
-    ensures tables { OnOk result (All (λ def. AreColumns (kinds_of def)) schema.new.tables × (length schema.new.tables ≤ MAX_DEFINITIONS)) }
+    ensures log { IfOk result (λ log. (log.file ≡ catalog_log) × (log.gate ≤ MAX_STEP * length schema.new.catalog.tables)) }
+    ensures tables { OnOk result (All (λ def. AreColumns (kinds_of def)) schema.new.catalog.tables × (length schema.new.catalog.tables ≤ MAX_DEFINITIONS)) }
     // They are those of the log, which is not damaged.
-    ensures holds { W.tells → IfOk result (λ log. HoldsCatalog schema.new.tables log.gate (bytes_in (W.outside site.old) catalog_log) ((W.outside site.new).files catalog_log)) }
+    ensures holds { W.tells → IfOk result (λ log. HoldsCatalog schema.new.catalog log.gate (bytes_in (W.outside site.old) catalog_log) ((W.outside site.new).files catalog_log)) }
     ensures damaged { W.tells → (damage : Damage) → IsErrOf result (TableFault.Damaged damage) → IsCatalogDamage (bytes_in (W.outside site.old) catalog_log) damage }
     // A crash at any moment of the call leaves the frames of the log from before it.
     ensures during { W.tells → (payloads : List (List ℕ)) → LeavesFrames payloads ((W.outside site.old).files catalog_log)
@@ -74,10 +74,10 @@ fn read_table<W: Site>(
     gate: u64,
     schema: &Schema,
 ) -> Result<Option<TableRead>, TableFault>
-    ensures read { W.tells → IfOk result (λ read. ReadsTable schema.now.tables gate (bytes_in (W.outside site.old) log) read) }
+    ensures read { W.tells → IfOk result (λ read. ReadsTable schema.now.catalog gate (bytes_in (W.outside site.old) log) read) }
     ensures damaged { W.tells → (damage : Damage) → IsErrOf result (TableFault.Damaged damage)
-        → (damage ≡ Damage.Catalog (gate + 1)) × LacksTable schema.now.tables gate (bytes_in (W.outside site.old) log) }
-    ensures makes { IfOk result (λ read. IfSome read (λ r. (create : Statement) × MakesTable schema.now.tables create r.def
+        → (damage ≡ Damage.Catalog (gate + 1)) × LacksTable schema.now.catalog gate (bytes_in (W.outside site.old) log) }
+    ensures makes { IfOk result (λ read. IfSome read (λ r. (create : Statement) × MakesTable schema.now.catalog create r.def
         × (r.next ≡ gate + length (frame_of (statement_text create))))) }
     ensures keeps { OnlyReads W.tells (IsErrOf result TableFault.Failed) (W.outside site.old) (W.outside site.new) }
 {

@@ -1,5 +1,6 @@
 // How a table is made.
 ghost use Rattle.std.specs.Prelude.{◌≡◌, ◌≤◌, ◌+◌, ◌++◌, [], ◌∷◌, List, ℕ, length, IfOk, OnOk, IsErrOf};
+ghost use Rattle.chv_catalog.specs.Schemas.{with_table};
 ghost use Rattle.chv_commit.specs.Replays.{no_state};
 ghost use Rattle.chv_commit.specs.declared.commit.Commit.{Commit};
 ghost use Rattle.chv_gate.specs.GateLog.{frame_of};
@@ -32,19 +33,19 @@ impl Store {
         def: TableDef,
     ) -> Result<(), PutFault>
         requires usable { IsUsable W.tells self.old (W.outside site.old) }
-        requires makes { MakesTable self.old.schema.tables (Statement.CreateTable create.now) def }
+        requires makes { MakesTable self.old.schema.catalog (Statement.CreateTable create.now) def }
         // The table's book is empty; a crash at any moment of the call leaves the store with the table or without.
         ensures created { W.tells → (payloads : List (List ℕ)) (books : ℕ → Book) → HoldsBooks self.old (W.outside site.old).files payloads books
-            → Turns result (HoldsBooks self.new (W.outside site.new).files (payloads ++ statement_text (Statement.CreateTable create.now) ∷ []) (with_book (length self.old.schema.tables + 1) no_book books))
+            → Turns result (HoldsBooks self.new (W.outside site.new).files (payloads ++ statement_text (Statement.CreateTable create.now) ∷ []) (with_book (length self.old.schema.catalog.tables + 1) no_book books))
             (StandsFor payloads (forms_of self.old) books)
-            (StandsFor (payloads ++ statement_text (Statement.CreateTable create.now) ∷ []) (forms_of self.old ++ form_of def ∷ []) (with_book (length self.old.schema.tables + 1) no_book books))
+            (StandsFor (payloads ++ statement_text (Statement.CreateTable create.now) ∷ []) (forms_of self.old ++ form_of def ∷ []) (with_book (length self.old.schema.catalog.tables + 1) no_book books))
             (W.outside site.old) (W.outside site.new) }
         ensures logged { W.tells → (payloads : List (List ℕ)) (commits : ℕ → List Commit) → HoldsLogs self.old (W.outside site.old).files payloads commits
-            → ((W.outside site.old).files (table_log (length self.old.schema.tables + 1))).most ≤ 1
-            → OnOk result (HoldsLogs self.new (W.outside site.new).files (payloads ++ statement_text (Statement.CreateTable create.now) ∷ []) (with_one (length self.old.schema.tables + 1) [] commits)) }
-        ensures held { OnOk result ((self.new.schema.tables ≡ self.old.schema.tables ++ def ∷ []) × (states_of self.new ≡ states_of self.old ++ no_state ∷ [])) }
+            → ((W.outside site.old).files (table_log (length self.old.schema.catalog.tables + 1))).most ≤ 1
+            → OnOk result (HoldsLogs self.new (W.outside site.new).files (payloads ++ statement_text (Statement.CreateTable create.now) ∷ []) (with_one (length self.old.schema.catalog.tables + 1) [] commits)) }
+        ensures held { OnOk result ((self.new.schema.catalog ≡ with_table def self.old.schema.catalog) × (states_of self.new ≡ states_of self.old ++ no_state ∷ [])) }
         ensures usable { OnOk result (IsUsable W.tells self.new (W.outside site.new)) }
-        ensures keeps { ChangesLogs W.tells (IsErrOf result PutFault.Failed) (length self.old.schema.tables + 1) (W.outside site.old) (W.outside site.new) }
+        ensures keeps { ChangesLogs W.tells (IsErrOf result PutFault.Failed) (length self.old.schema.catalog.tables + 1) (W.outside site.old) (W.outside site.new) }
     {
         let frame = spell(alloc, create)?;
         self.schema.reserve_one(alloc, def.name.as_slice())?;

@@ -20,8 +20,8 @@ pub fn read_create(
     schema: &Schema,
     text: &[u8],
 ) -> Result<Option<TableDef>, AllocError>
-    ensures none { IfOk result (λ read. IfNone read ((create : Statement) (def : TableDef) → MakesTable schema.now.tables create def → text.now ≢ statement_text create)) }
-    ensures some { IfOk result (λ read. IfSome read (λ def. (create : Statement) × MakesTable schema.now.tables create def × (text.now ≡ statement_text create))) }
+    ensures none { IfOk result (λ read. IfNone read ((create : Statement) (def : TableDef) → MakesTable schema.now.catalog create def → text.now ≢ statement_text create)) }
+    ensures some { IfOk result (λ read. IfSome read (λ def. (create : Statement) × MakesTable schema.now.catalog create def × (text.now ≡ statement_text create))) }
 {
     match read(alloc, text)? {
         Some(statement) => made_by(alloc, schema, &statement, text),
@@ -37,8 +37,8 @@ fn made_by(
     text: &[u8],
 ) -> Result<Option<TableDef>, AllocError>
     requires read { statement_in text.now ≡ Some statement.now }
-    ensures none { IfOk result (λ read. IfNone read ((create : Statement) (def : TableDef) → MakesTable schema.now.tables create def → text.now ≢ statement_text create)) }
-    ensures some { IfOk result (λ read. IfSome read (λ def. (create : Statement) × MakesTable schema.now.tables create def × (text.now ≡ statement_text create))) }
+    ensures none { IfOk result (λ read. IfNone read ((create : Statement) (def : TableDef) → MakesTable schema.now.catalog create def → text.now ≢ statement_text create)) }
+    ensures some { IfOk result (λ read. IfSome read (λ def. (create : Statement) × MakesTable schema.now.catalog create def × (text.now ≡ statement_text create))) }
 {
     match statement {
         Statement::CreateTable(made) => table_of(alloc, schema, made, text),
@@ -54,8 +54,8 @@ fn table_of(
     text: &[u8],
 ) -> Result<Option<TableDef>, AllocError>
     requires read { statement_in text.now ≡ Some (Statement.CreateTable made.now) }
-    ensures none { IfOk result (λ read. IfNone read ((create : Statement) (def : TableDef) → MakesTable schema.now.tables create def → text.now ≢ statement_text create)) }
-    ensures some { IfOk result (λ read. IfSome read (λ def. (create : Statement) × MakesTable schema.now.tables create def × (text.now ≡ statement_text create))) }
+    ensures none { IfOk result (λ read. IfNone read ((create : Statement) (def : TableDef) → MakesTable schema.now.catalog create def → text.now ≢ statement_text create)) }
+    ensures some { IfOk result (λ read. IfSome read (λ def. (create : Statement) × MakesTable schema.now.catalog create def × (text.now ≡ statement_text create))) }
 {
     if !is_built_table(made) {
         return Ok(None);

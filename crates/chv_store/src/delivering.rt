@@ -49,7 +49,7 @@ impl Store {
         requires room { HasRoom 1 self.old table }
         // The entry has arrived; a crash at any moment of the call leaves the books from before it or behind it.
         ensures delivered { W.tells → (payloads : List (List ℕ)) (books : ℕ → Book) (entry : Entry)
-            → BringsTo self.old.schema.tables table id rows encoded.now entry → HoldsBooks self.old (W.outside site.old).files payloads books
+            → BringsTo self.old.schema.catalog.tables table id rows encoded.now entry → HoldsBooks self.old (W.outside site.old).files payloads books
             → Turns result (HoldsBooks self.new (W.outside site.new).files payloads (books_behind self.old table entry books))
             (StandsFor payloads (forms_of self.old) books) (StandsFor payloads (forms_of self.old) (books_behind self.old table entry books))
             (W.outside site.old) (W.outside site.new) }

@@ -28,11 +28,11 @@ impl Store {
     ) -> Result<Block, TableFault>
         requires within { IsWithin self.now }
         requires table { IsTable self.now table }
-        ensures rows { W.tells → IfOk result (λ rows. (def : TableDef) → slice_get self.now.schema.tables (table - 1) ≡ Some def → (payloads : List (List ℕ)) (books : ℕ → Book)
+        ensures rows { W.tells → IfOk result (λ rows. (def : TableDef) → slice_get self.now.schema.catalog.tables (table - 1) ≡ Some def → (payloads : List (List ℕ)) (books : ℕ → Book)
             → HoldsBooks self.now (W.outside site.old).files payloads books → rows ≡ normal_rows (form_of def) (rows_in (books table))) }
-        ensures whole { W.tells → OnOk result ((def : TableDef) → slice_get self.now.schema.tables (table - 1) ≡ Some def
+        ensures whole { W.tells → OnOk result ((def : TableDef) → slice_get self.now.schema.catalog.tables (table - 1) ≡ Some def
             → ArePartsWhole table (form_of def) (state_of self.now table).layout (bytes_in (W.outside site.old))) }
-        ensures damaged { W.tells → (damage : Damage) → IsErrOf result (TableFault.Damaged damage) → (def : TableDef) → slice_get self.now.schema.tables (table - 1) ≡ Some def
+        ensures damaged { W.tells → (damage : Damage) → IsErrOf result (TableFault.Damaged damage) → (def : TableDef) → slice_get self.now.schema.catalog.tables (table - 1) ≡ Some def
             → IsPartDamage table (form_of def) (state_of self.now table).layout (bytes_in (W.outside site.old)) damage }
         ensures keeps { OnlyReads W.tells (IsErrOf result TableFault.Failed) (W.outside site.old) (W.outside site.new) }
     {

@@ -1,9 +1,8 @@
 -- The log is begun, and then its texts are read.
-use Rattle.std.proofs.Common.{◌≡◌, ◌≤◌, ◌++◌, ◌∷◌, [], List, ℕ, length, true, false, None, Err, sym, ap, subst, ◌∙◌, arith}
+use Rattle.std.proofs.Common.{◌≡◌, ◌≤◌, List, ℕ, length, true, false, None, Err, sym, ap, subst, ◌∙◌, arith}
 use Rattle.std.proofs.lemmas.Bool.{false≢true}
 use Rattle.std.proofs.lemmas.Result.{err_from_is_err_and}
-use Rattle.chv_catalog.specs.Schemas.{Seen, names_of, place_of}
-use Rattle.chv_catalog.specs.declared.table_def.TableDef.{TableDef}
+use Rattle.chv_catalog.specs.Schemas.{Catalog, Seen, definitions_in, names_of, place_of, with_table}
 use Rattle.chv_gate.specs.Crashes.{Leaves, LeavesFrames}
 use Rattle.chv_gate.specs.GateLog.{HasFrames, begun}
 use Rattle.chv_gate.specs.declared.log.Log.{Log}
@@ -32,8 +31,8 @@ statements-init g c =
     let begins = c.in_ok-begin.ensures in
     let none = c.requires in
     record {
-      within = subst (λ (ts : List TableDef). AreWithin ts 0) (sym none) within_none;
-      read = λ tells. subst (λ (ts : List TableDef). HasTables ts 0 (begun (bytes_in before catalog_log))) (sym none) (tables_none (begun (bytes_in before catalog_log)));
+      within = subst (λ (catalog : Catalog). AreWithin catalog.tables 0) (sym none) within_none;
+      read = λ tells. subst (λ (catalog : Catalog). HasTables catalog 0 (begun (bytes_in before catalog_log))) (sym none) (tables_none (begun (bytes_in before catalog_log)));
       begun_now = λ tells. subst (λ (f : FileId). now.files f ≡ settled (begun (bytes_in before f))) is (begins.begun tells);
       left = λ tells payloads leaves.
           subst (λ (f : FileId). Leaves f (HasFrames payloads) before now) is (begins.during tells payloads (subst (λ (f : FileId). LeavesFrames payloads (before.files f)) (sym is) leaves));
@@ -50,7 +49,7 @@ returns-in_err-def-clause-damaged g c tells damage is =
     let bytes = bytes_in (g.W.Site.outside c.args.site.now) catalog_log in
     let file : bytes_in (g.W.Site.outside c.statements.site) c.catalog_log-file.result ≡ begun bytes =
     ap (bytes_in (g.W.Site.outside c.statements.site)) c.catalog_log-file.ensures ∙ ap (λ (s : FileState). s.bytes) (so_far.begun_now tells) in
-    tables_damage c.statements.schema.tables c.statements.gate bytes damage (so_far.read tells) (told.0, subst (LacksTable c.statements.schema.tables c.statements.gate) file told.1)
+    tables_damage c.statements.schema.catalog c.statements.gate bytes damage (so_far.read tells) (told.0, subst (LacksTable c.statements.schema.catalog c.statements.gate) file told.1)
 
 pub returns-in_err-def-clause-during : goal.returns-in_err-def-clause-during
 returns-in_err-def-clause-during g c tells payloads leaves =
@@ -67,13 +66,13 @@ returns-in_err-reserve_one-in-Some-clause-during g c tells payloads leaves =
 pub accept-requires-clause-free : goal.accept-requires-clause-free
 accept-requires-clause-free g c =
     let read = rw c.in-Some.is at c.in_ok-def.ensures.makes in
-    subst (λ (ts : List TableDef). place_of c.in-Some.field-0.def.name (names_of ts) ≡ None) (sym c.in_ok-reserve_one-in-Some.ensures.tables)
-    (makes_free c.statements.schema.tables read.0 c.in-Some.field-0.def read.1)
+    subst (λ (catalog : Catalog). place_of c.in-Some.field-0.def.name (names_of catalog) ≡ None) (sym c.in_ok-reserve_one-in-Some.ensures.catalog)
+    (makes_free c.statements.schema.catalog read.0 c.in-Some.field-0.def read.1)
 
 pub accept-requires-clause-few : goal.accept-requires-clause-few
 accept-requires-clause-few g c =
     let read = rw c.in-Some.is at c.in_ok-def.ensures.makes in
-    omega (arith, makes_few c.statements.schema.tables read.0 c.in-Some.field-0.def read.1, ap (λ (ts : List TableDef). length ts) c.in_ok-reserve_one-in-Some.ensures.tables)
+    omega (arith, makes_few c.statements.schema.catalog read.0 c.in-Some.field-0.def read.1, ap definitions_in c.in_ok-reserve_one-in-Some.ensures.catalog)
 
 pub statements-preserved : goal.statements-preserved
 statements-preserved g c =
@@ -81,20 +80,20 @@ statements-preserved g c =
     let mid = g.W.Site.outside c.statements.site in
     let now = g.W.Site.outside c.read_table.new.site in
     let so_far = c.statements.invariant in
-    let tables = c.statements.schema.tables in
+    let catalog = c.statements.schema.catalog in
     let gate = c.statements.gate in
     let read = c.in-Some.field-0 in
     let file_now = begun (bytes_in before catalog_log) in
     let made = rw c.in-Some.is at c.in_ok-def.ensures.makes in
-    let tables_now : c.accept.new.self.tables ≡ tables ++ read.def ∷ [] =
-    ap (λ (s : Seen). s.tables) c.accept.ensures ∙ ap (λ (ts : List TableDef). ts ++ read.def ∷ []) c.in_ok-reserve_one-in-Some.ensures.tables in
+    let catalog_now : c.accept.new.self.catalog ≡ with_table read.def catalog =
+    ap (λ (s : Seen). s.catalog) c.accept.ensures ∙ ap (with_table read.def) c.in_ok-reserve_one-in-Some.ensures.catalog in
     record {
-      within = subst (λ (ts : List TableDef). AreWithin ts read.next) (sym tables_now) (within_next tables gate made.0 read.def read.next so_far.within made.1 made.2);
+      within = subst (λ (now : Catalog). AreWithin now.tables read.next) (sym catalog_now) (within_next catalog gate made.0 read.def read.next so_far.within made.1 made.2);
       read = λ tells.
           let file : bytes_in mid c.catalog_log-file.result ≡ file_now = ap (bytes_in mid) c.catalog_log-file.ensures ∙ ap (λ (s : FileState). s.bytes) (so_far.begun_now tells) in
-          subst (λ (ts : List TableDef). HasTables ts read.next file_now) (sym tables_now)
-          (tables_next tables gate file_now read (so_far.read tells)
-          (subst (ReadsTable tables gate file_now) c.in-Some.is (subst (λ (bytes : List ℕ). ReadsTable tables gate bytes c.in_ok-def.field-0) file (c.in_ok-def.ensures.read tells))));
+          subst (λ (now : Catalog). HasTables now read.next file_now) (sym catalog_now)
+          (tables_next catalog gate file_now read (so_far.read tells)
+          (subst (ReadsTable catalog gate file_now) c.in-Some.is (subst (λ (bytes : List ℕ). ReadsTable catalog gate bytes c.in_ok-def.field-0) file (c.in_ok-def.ensures.read tells))));
       begun_now = λ tells. c.in_ok-def.ensures.keeps.files tells catalog_log ∙ so_far.begun_now tells;
       left = λ tells payloads leaves.
           during_begun catalog_log payloads before mid now leaves (g.met.W.Site.reads c.args.site.now catalog_log)
@@ -108,13 +107,13 @@ returns-in-None-clause-holds g c tells =
     let bytes = bytes_in (g.W.Site.outside c.args.site.now) catalog_log in
     let mid = g.W.Site.outside c.statements.site in
     let so_far = c.statements.invariant in
-    let tables = c.statements.schema.tables in
+    let catalog = c.statements.schema.catalog in
     let gate = c.statements.gate in
     let file : bytes_in mid c.catalog_log-file.result ≡ begun bytes = ap (bytes_in mid) c.catalog_log-file.ensures ∙ ap (λ (s : FileState). s.bytes) (so_far.begun_now tells) in
     let place : gate ≡ c.at.result.gate = sym (ap (λ (log : Log). log.gate) c.at.ensures) in
-    subst (λ (n : ℕ). HoldsCatalog tables n bytes ((g.W.Site.outside c.read_table.new.site).files catalog_log)) place
-    (holds_read tables gate bytes ((g.W.Site.outside c.read_table.new.site).files catalog_log) (so_far.read tells)
-    (catalog_ended tables gate (bytes_in mid c.catalog_log-file.result) (begun bytes) c.in_ok-def.field-0 file c.in-None.is (c.in_ok-def.ensures.read tells))
+    subst (λ (n : ℕ). HoldsCatalog catalog n bytes ((g.W.Site.outside c.read_table.new.site).files catalog_log)) place
+    (holds_read catalog gate bytes ((g.W.Site.outside c.read_table.new.site).files catalog_log) (so_far.read tells)
+    (catalog_ended catalog gate (bytes_in mid c.catalog_log-file.result) (begun bytes) c.in_ok-def.field-0 file c.in-None.is (c.in_ok-def.ensures.read tells))
     (c.in_ok-def.ensures.keeps.files tells catalog_log ∙ so_far.begun_now tells))
 
 pub returns-in-None-clause-during : goal.returns-in-None-clause-during

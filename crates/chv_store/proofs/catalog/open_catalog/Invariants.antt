@@ -15,8 +15,8 @@ invariant-statements g l =
     let before = S.outside l.fn.site in
     let now = S.outside l.site in
     record {
-      within : AreWithin l.schema.tables l.gate;
-      read : S.tells → HasTables l.schema.tables l.gate (begun (bytes_in before catalog_log));
+      within : AreWithin l.schema.catalog.tables l.gate;
+      read : S.tells → HasTables l.schema.catalog l.gate (begun (bytes_in before catalog_log));
       begun_now : S.tells → now.files catalog_log ≡ settled (begun (bytes_in before catalog_log));
       left : S.tells → (payloads : List (List ℕ)) → LeavesFrames payloads (before.files catalog_log) → Leaves catalog_log (HasFrames payloads) before now;
       kept : S.tells → 2 ≤ length (bytes_in before catalog_log) → bytes_in now catalog_log ≡ bytes_in before catalog_log;
@@ -24,4 +24,4 @@ invariant-statements g l =
     }
 
 abbrev pub decreases-statements : goal.decreases-statements
-decreases-statements g l = 257 - length l.schema.tables
+decreases-statements g l = 257 - length l.schema.catalog.tables

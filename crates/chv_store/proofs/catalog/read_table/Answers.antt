@@ -11,5 +11,5 @@ returns-in-Ok-Body-clause-damaged g c tells damage is =
     let none = rw c.in-None.is at c.in_ok-def-in-Ok-Body.ensures.none in
     let told : damage ≡ _ = cc in (
       told,
-      lacks_table c.args.schema.now.tables c.args.gate file c.in-Ok-Body.payload.items c.in-Ok-Body.next read (λ create def makes same. none create def makes (c.deref.ensures.value ∙ same)),
+      lacks_table c.args.schema.now.catalog c.args.gate file c.in-Ok-Body.payload.items c.in-Ok-Body.next read (λ create def makes same. none create def makes (c.deref.ensures.value ∙ same)),
     )

@@ -1,6 +1,6 @@
 -- The catalog is opened, and then the tables.
 use Rattle.std.proofs.Common.{inr, map, Err, refl, ap, ◌∙◌, arith}
-use Rattle.chv_define.specs.Accepted.{catalog_payload, tables_of}
+use Rattle.chv_query.specs.Accepted.{catalog_payload, tables_of}
 use Rattle.chv_part.specs.Forms.{form_of}
 use Rattle.chv_site.specs.FileIds.{table_log}
 use Rattle.chv_site.specs.declared.file_id.FileId.{FileId}
@@ -14,7 +14,7 @@ returns-in-Err-clause-during g c tells schema books lawful settles =
 
 pub returns-in-Ok-open_tables-clause-holds : goal.returns-in-Ok-open_tables-clause-holds
 returns-in-Ok-open_tables-clause-holds g c tells schema books lawful settles =
-    let tables = c.open_catalog.new.schema.tables in
+    let catalog = c.open_catalog.new.schema.catalog in
     let gate = c.in-Ok.log.gate in
     let old = (g.W.Site.outside c.args.site.now).files in
     let mid = (g.W.Site.outside c.open_catalog.new.site).files in
@@ -22,14 +22,14 @@ returns-in-Ok-open_tables-clause-holds g c tells schema books lawful settles =
     let holds = c.in-Ok.ensures.holds tells in
     let opened = c.in-Ok-open_tables.ensures in
     let store : Store = record { catalog = c.in-Ok.log; schema = c.open_catalog.new.schema; tables = c.in-Ok-open_tables.tables } in
-    let held = opened.holds tells (map catalog_payload schema) books (mid_settles tables gate old mid others holds schema books lawful settles) in
-    holds_store tables gate old mid others holds schema books lawful settles store (g.W.Site.outside c.open_tables.new.site).files c.in-Ok.ensures.log.0 refl refl (opened.catalog tells) held.0 held.1
+    let held = opened.holds tells (map catalog_payload schema) books (mid_settles catalog gate old mid others holds schema books lawful settles) in
+    holds_store catalog gate old mid others holds schema books lawful settles store (g.W.Site.outside c.open_tables.new.site).files c.in-Ok.ensures.log.0 refl refl (opened.catalog tells) held.0 held.1
 
 pub returns-in-Ok-open_tables-clause-opened : goal.returns-in-Ok-open_tables-clause-opened
 returns-in-Ok-open_tables-clause-opened g c tells =
     let store : Store = record { catalog = c.in-Ok.log; schema = c.open_catalog.new.schema; tables = c.in-Ok-open_tables.tables } in
     let opened = c.in-Ok-open_tables.ensures in
-    opens_as c.open_catalog.new.schema.tables c.in-Ok.log.gate (g.W.Site.outside c.args.site.now).files (g.W.Site.outside c.open_catalog.new.site).files (c.open_catalog.ensures.keeps.others tells) (c.in-Ok.ensures.holds tells)
+    opens_as c.open_catalog.new.schema.catalog c.in-Ok.log.gate (g.W.Site.outside c.args.site.now).files (g.W.Site.outside c.open_catalog.new.site).files (c.open_catalog.ensures.keeps.others tells) (c.in-Ok.ensures.holds tells)
     store (g.W.Site.outside c.open_tables.new.site).files c.in-Ok.ensures.log.0 refl refl (opened.catalog tells) (opened.opened tells)
 
 pub returns-in-Ok-open_tables-clause-others : goal.returns-in-Ok-open_tables-clause-others
@@ -39,29 +39,29 @@ returns-in-Ok-open_tables-clause-others g c tells table beyond =
 
 pub returns-in-Ok-open_tables-clause-during : goal.returns-in-Ok-open_tables-clause-during
 returns-in-Ok-open_tables-clause-during g c tells schema books lawful settles =
-    let tables = c.open_catalog.new.schema.tables in
+    let catalog = c.open_catalog.new.schema.catalog in
     let gate = c.in-Ok.log.gate in
     let old = g.W.Site.outside c.args.site.now in
     let mid = g.W.Site.outside c.open_catalog.new.site in
     let others = c.open_catalog.ensures.keeps.others tells in
     let holds = c.in-Ok.ensures.holds tells in
-    store_during schema tables books old mid (g.W.Site.outside c.open_tables.new.site) settles (are_tables tables gate old.files mid.files others holds schema books lawful settles)
+    store_during schema catalog.tables books old mid (g.W.Site.outside c.open_tables.new.site) settles (are_tables catalog gate old.files mid.files others holds schema books lawful settles)
     (c.open_catalog.ensures.keeps.said tells) (c.open_catalog.ensures.during tells)
-    (c.open_tables.ensures.during tells (map catalog_payload schema) books (mid_settles tables gate old.files mid.files others holds schema books lawful settles))
+    (c.open_tables.ensures.during tells (map catalog_payload schema) books (mid_settles catalog gate old.files mid.files others holds schema books lawful settles))
 
 pub returns-in-Err-open_tables-clause-damaged : goal.returns-in-Err-open_tables-clause-damaged
 returns-in-Err-open_tables-clause-damaged g c tells damage is =
-    inr (table_damaged c.open_catalog.new.schema.tables c.in-Ok.log.gate (g.W.Site.outside c.args.site.now).files (g.W.Site.outside c.open_catalog.new.site).files
+    inr (table_damaged c.open_catalog.new.schema.catalog c.in-Ok.log.gate (g.W.Site.outside c.args.site.now).files (g.W.Site.outside c.open_catalog.new.site).files
     (c.open_catalog.ensures.keeps.others tells) (c.in-Ok.ensures.holds tells) damage (c.open_tables.ensures.damaged tells damage (c.in-Err-open_tables.is ∙ ap Err is)))
 
 pub returns-in-Err-open_tables-clause-during : goal.returns-in-Err-open_tables-clause-during
 returns-in-Err-open_tables-clause-during g c tells schema books lawful settles =
-    let tables = c.open_catalog.new.schema.tables in
+    let catalog = c.open_catalog.new.schema.catalog in
     let gate = c.in-Ok.log.gate in
     let old = g.W.Site.outside c.args.site.now in
     let mid = g.W.Site.outside c.open_catalog.new.site in
     let others = c.open_catalog.ensures.keeps.others tells in
     let holds = c.in-Ok.ensures.holds tells in
-    store_during schema tables books old mid (g.W.Site.outside c.open_tables.new.site) settles (are_tables tables gate old.files mid.files others holds schema books lawful settles)
+    store_during schema catalog.tables books old mid (g.W.Site.outside c.open_tables.new.site) settles (are_tables catalog gate old.files mid.files others holds schema books lawful settles)
     (c.open_catalog.ensures.keeps.said tells) (c.open_catalog.ensures.during tells)
-    (c.open_tables.ensures.during tells (map catalog_payload schema) books (mid_settles tables gate old.files mid.files others holds schema books lawful settles))
+    (c.open_tables.ensures.during tells (map catalog_payload schema) books (mid_settles catalog gate old.files mid.files others holds schema books lawful settles))

@@ -22,7 +22,7 @@ pub loop-number-init : goal.loop-number-init
 loop-number-init g c =
     let site = c.args.site.now in
     let before = g.W.Site.outside site in
-    let defs = c.args.schema.now.tables in
+    let defs = c.args.schema.now.catalog.tables in
     let none = c.new-tables.ensures.items in
     record {
       within = subst (λ (ts : List Table). EachTable IsHeldAs 1 [] ts) (sym none) tt;
@@ -35,7 +35,7 @@ loop-number-init g c =
     }
 
 pub open_table-requires : goal.open_table-requires
-open_table-requires g c = record { columns = def_has (λ (def : TableDef). AreColumns (kinds_of def)) c.args.schema.now.tables (c.loop-number.number - 1) c.table_def.result.now c.requires.columns c.table_def.ensures }
+open_table-requires g c = record { columns = def_has (λ (def : TableDef). AreColumns (kinds_of def)) c.args.schema.now.catalog.tables (c.loop-number.number - 1) c.table_def.result.now c.requires.columns c.table_def.ensures }
 
 -- one of them is not opened
 pub returns-in_err-table-clause-damaged : goal.returns-in_err-table-clause-damaged
@@ -43,13 +43,13 @@ returns-in_err-table-clause-damaged g c tells damage is =
     let so_far = c.loop-number.invariant in
     let p = err_from_is_err_and c.from_residual.result c.from_residual.ensures.1 in
     let same : p.0 ≡ TableFault.Damaged damage = cc (sym p.1 ∙ is) in
-    first_damaged (g.W.Site.outside c.args.site.now).files (g.W.Site.outside c.loop-number.site).files c.args.schema.now.tables c.loop-number.number c.loop-number.auto.number c.table_def.result.now c.table_def.ensures
+    first_damaged (g.W.Site.outside c.args.site.now).files (g.W.Site.outside c.loop-number.site).files c.args.schema.now.catalog.tables c.loop-number.number c.loop-number.auto.number c.table_def.result.now c.table_def.ensures
     c.loop-number.tables.items (so_far.opened tells) damage (c.in_err-table.ensures.damaged tells damage (ap Err (sym p.2 ∙ same)))
 
 pub returns-in_err-table-clause-during : goal.returns-in_err-table-clause-during
 returns-in_err-table-clause-during g c tells payloads books settles =
     let so_far = c.loop-number.invariant in
-    table_during payloads c.args.schema.now.tables books c.loop-number.number c.loop-number.auto.number c.table_def.result.now c.table_def.ensures
+    table_during payloads c.args.schema.now.catalog.tables books c.loop-number.number c.loop-number.auto.number c.table_def.result.now c.table_def.ensures
     (g.W.Site.outside c.args.site.now) (g.W.Site.outside c.loop-number.site) (g.W.Site.outside c.open_table.new.site)
     (so_far.settles tells payloads books settles) (so_far.begins.said tells) (so_far.during tells payloads books settles) (c.in_err-table.ensures.during tells)
 
@@ -59,7 +59,7 @@ returns-in_err-table-clause-catalog g c tells =
     let mid = (g.W.Site.outside c.loop-number.site).files in
     let number = c.loop-number.number in
     c.in_err-table.ensures.keeps.others tells catalog_log (λ same. absurd (omega (arith, c.loop-number.auto.number, ap (λ (f : FileId). f.table) same)))
-    ∙ catalog_kept before mid c.args.schema.now.tables number c.loop-number.tables.items (c.loop-number.invariant.opened tells)
+    ∙ catalog_kept before mid c.args.schema.now.catalog.tables number c.loop-number.tables.items (c.loop-number.invariant.opened tells)
 
 pub returns-in_err-table-clause-keeps : goal.returns-in_err-table-clause-keeps
 returns-in_err-table-clause-keeps g c =
@@ -76,7 +76,7 @@ returns-in_err-table-clause-keeps g c =
 pub returns-then-is_err-clause-during : goal.returns-then-is_err-clause-during
 returns-then-is_err-clause-during g c tells payloads books settles =
     let so_far = c.loop-number.invariant in
-    table_during payloads c.args.schema.now.tables books c.loop-number.number c.loop-number.auto.number c.table_def.result.now c.table_def.ensures
+    table_during payloads c.args.schema.now.catalog.tables books c.loop-number.number c.loop-number.auto.number c.table_def.result.now c.table_def.ensures
     (g.W.Site.outside c.args.site.now) (g.W.Site.outside c.loop-number.site) (g.W.Site.outside c.open_table.new.site)
     (so_far.settles tells payloads books settles) (so_far.begins.said tells) (so_far.during tells payloads books settles) (c.in_ok-table.ensures.during tells)
 
@@ -86,7 +86,7 @@ returns-then-is_err-clause-catalog g c tells =
     let mid = (g.W.Site.outside c.loop-number.site).files in
     let number = c.loop-number.number in
     c.in_ok-table.ensures.keeps.others tells catalog_log (λ same. absurd (omega (arith, c.loop-number.auto.number, ap (λ (f : FileId). f.table) same)))
-    ∙ catalog_kept before mid c.args.schema.now.tables number c.loop-number.tables.items (c.loop-number.invariant.opened tells)
+    ∙ catalog_kept before mid c.args.schema.now.catalog.tables number c.loop-number.tables.items (c.loop-number.invariant.opened tells)
 
 pub returns-then-is_err-clause-keeps : goal.returns-then-is_err-clause-keeps
 returns-then-is_err-clause-keeps g c =
@@ -100,7 +100,7 @@ returns-then-is_err-clause-keeps g c =
 pub loop-number-preserved : goal.loop-number-preserved
 loop-number-preserved g c =
     let so_far = c.loop-number.invariant in
-    let defs = c.args.schema.now.tables in
+    let defs = c.args.schema.now.catalog.tables in
     let number = c.loop-number.number in
     let some = c.loop-number.auto.number in
     let def = c.table_def.result.now in
@@ -131,25 +131,25 @@ loop-number-preserved g c =
 -- all of them are opened
 pub returns-clause-placed : goal.returns-clause-placed
 returns-clause-placed g c tells =
-    all_placed (g.W.Site.outside c.args.site.now).files (g.W.Site.outside c.loop-number.site).files c.args.schema.now.tables c.loop-number.number (omega arith) c.loop-number.tables.items (c.loop-number.invariant.opened tells)
+    all_placed (g.W.Site.outside c.args.site.now).files (g.W.Site.outside c.loop-number.site).files c.args.schema.now.catalog.tables c.loop-number.number (omega arith) c.loop-number.tables.items (c.loop-number.invariant.opened tells)
 
 pub returns-clause-holds : goal.returns-clause-holds
 returns-clause-holds g c tells payloads books settles = (
-  all_hold (g.W.Site.outside c.args.site.now).files (g.W.Site.outside c.loop-number.site).files c.args.schema.now.tables c.loop-number.number (omega arith) c.loop-number.tables.items (c.loop-number.invariant.opened tells) payloads books settles,
+  all_hold (g.W.Site.outside c.args.site.now).files (g.W.Site.outside c.loop-number.site).files c.args.schema.now.catalog.tables c.loop-number.number (omega arith) c.loop-number.tables.items (c.loop-number.invariant.opened tells) payloads books settles,
   c.loop-number.invariant.settles tells payloads books settles,
 )
 
 pub returns-clause-opened : goal.returns-clause-opened
 returns-clause-opened g c tells =
-    all_open (g.W.Site.outside c.args.site.now).files (g.W.Site.outside c.loop-number.site).files c.args.schema.now.tables c.loop-number.number (omega arith) c.loop-number.tables.items (c.loop-number.invariant.opened tells)
+    all_open (g.W.Site.outside c.args.site.now).files (g.W.Site.outside c.loop-number.site).files c.args.schema.now.catalog.tables c.loop-number.number (omega arith) c.loop-number.tables.items (c.loop-number.invariant.opened tells)
 
 pub returns-clause-others : goal.returns-clause-others
 returns-clause-others g c tells =
-    others_kept (g.W.Site.outside c.args.site.now).files (g.W.Site.outside c.loop-number.site).files c.args.schema.now.tables c.loop-number.number (omega arith) c.loop-number.tables.items (c.loop-number.invariant.opened tells)
+    others_kept (g.W.Site.outside c.args.site.now).files (g.W.Site.outside c.loop-number.site).files c.args.schema.now.catalog.tables c.loop-number.number (omega arith) c.loop-number.tables.items (c.loop-number.invariant.opened tells)
 
 pub returns-clause-catalog : goal.returns-clause-catalog
 returns-clause-catalog g c tells =
-    catalog_kept (g.W.Site.outside c.args.site.now).files (g.W.Site.outside c.loop-number.site).files c.args.schema.now.tables c.loop-number.number c.loop-number.tables.items (c.loop-number.invariant.opened tells)
+    catalog_kept (g.W.Site.outside c.args.site.now).files (g.W.Site.outside c.loop-number.site).files c.args.schema.now.catalog.tables c.loop-number.number c.loop-number.tables.items (c.loop-number.invariant.opened tells)
 
 pub returns-clause-keeps : goal.returns-clause-keeps
 returns-clause-keeps g c =

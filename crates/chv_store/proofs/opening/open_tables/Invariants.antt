@@ -15,10 +15,10 @@ invariant-loop-number g l =
     let before = S.outside l.fn.site in
     let now = S.outside l.site in
     record {
-      within : EachTable IsHeldAs 1 (take (l.number - 1) l.schema.tables) l.tables.items;
-      opened : S.tells → AreOpened before.files now.files l.schema.tables l.number l.tables.items;
-      settles : S.tells → (payloads : List (List ℕ)) (books : ℕ → Book) → FilesSettle before.files payloads (map form_of l.schema.tables) books → FilesSettle now.files payloads (map form_of l.schema.tables) books;
-      during : S.tells → (payloads : List (List ℕ)) (books : ℕ → Book) → FilesSettle before.files payloads (map form_of l.schema.tables) books
-          → During before now (StandsLeft payloads (map form_of l.schema.tables) books before.said);
+      within : EachTable IsHeldAs 1 (take (l.number - 1) l.schema.catalog.tables) l.tables.items;
+      opened : S.tells → AreOpened before.files now.files l.schema.catalog.tables l.number l.tables.items;
+      settles : S.tells → (payloads : List (List ℕ)) (books : ℕ → Book) → FilesSettle before.files payloads (map form_of l.schema.catalog.tables) books → FilesSettle now.files payloads (map form_of l.schema.catalog.tables) books;
+      during : S.tells → (payloads : List (List ℕ)) (books : ℕ → Book) → FilesSettle before.files payloads (map form_of l.schema.catalog.tables) books
+          → During before now (StandsLeft payloads (map form_of l.schema.catalog.tables) books before.said);
       begins : BeginsLogs S.tells ⊥ before now;
     }

@@ -1,8 +1,8 @@
 -- A table more: its own log is begun, and then the catalog has its text.
-use Rattle.std.proofs.Common.{◌≡◌, ℕ, ◌+◌, ◌<◌, ◌≤◌, None, List, [], ◌∷◌, ◌++◌, length, refl, sym, ap, subst, ◌∙◌, arith}
+use Rattle.std.proofs.Common.{◌≡◌, ℕ, ◌+◌, ◌<◌, ◌≤◌, None, [], ◌∷◌, ◌++◌, length, refl, sym, ap, subst, ◌∙◌, arith}
 use Rattle.std.proofs.lemmas.Result.{err_from_is_err_and}
 use Rattle.chv_ast.specs.declared.statement.Statement.TheVariants as statement
-use Rattle.chv_catalog.specs.Schemas.{names_of}
+use Rattle.chv_catalog.specs.Schemas.{Catalog, definitions_in, names_of}
 use Rattle.chv_catalog.specs.declared.table_def.TableDef.{TableDef}
 use Rattle.chv_gate.specs.GateLog.{IsReady}
 use Rattle.chv_part.specs.Books.{no_book}
@@ -19,22 +19,22 @@ use Rattle.chv_store.proofs.StoreLemmas.{book_kept, placed_kept}
 use Rattle.chv_store.proofs.store.Store.create.Goals as goal
 
 pub spell-requires-clause-short : goal.spell-requires-clause-short
-spell-requires-clause-short g c = makes_short c.args.self.now.schema.tables (statement.CreateTable c.args.create.now) c.args.def c.requires.makes
+spell-requires-clause-short g c = makes_short c.args.self.now.schema.catalog (statement.CreateTable c.args.create.now) c.args.def c.requires.makes
 
 pub spell-requires-clause-some : goal.spell-requires-clause-some
-spell-requires-clause-some g c = makes_some c.args.self.now.schema.tables (statement.CreateTable c.args.create.now) c.args.def c.requires.makes
+spell-requires-clause-some g c = makes_some c.args.self.now.schema.catalog (statement.CreateTable c.args.create.now) c.args.def c.requires.makes
 
 pub begin_table-requires : goal.begin_table-requires
-begin_table-requires g c = record { columns = makes_columns c.args.self.now.schema.tables (statement.CreateTable c.args.create.now) c.args.def c.requires.makes }
+begin_table-requires g c = record { columns = makes_columns c.args.self.now.schema.catalog (statement.CreateTable c.args.create.now) c.args.def c.requires.makes }
 
 pub accept-requires-clause-free : goal.accept-requires-clause-free
 accept-requires-clause-free g c =
-    subst (λ (defs : List TableDef). place_of c.args.def.name (names_of defs) ≡ None) (sym c.in_ok-reserve_one.ensures.tables)
-    (makes_free c.args.self.now.schema.tables (statement.CreateTable c.args.create.now) c.args.def c.requires.makes)
+    subst (λ (catalog : Catalog). place_of c.args.def.name (names_of catalog) ≡ None) (sym c.in_ok-reserve_one.ensures.catalog)
+    (makes_free c.args.self.now.schema.catalog (statement.CreateTable c.args.create.now) c.args.def c.requires.makes)
 
 pub accept-requires-clause-few : goal.accept-requires-clause-few
 accept-requires-clause-few g c =
-    omega (arith, ap length c.in_ok-reserve_one.ensures.tables, makes_few c.args.self.now.schema.tables (statement.CreateTable c.args.create.now) c.args.def c.requires.makes)
+    omega (arith, ap definitions_in c.in_ok-reserve_one.ensures.catalog, makes_few c.args.self.now.schema.catalog (statement.CreateTable c.args.create.now) c.args.def c.requires.makes)
 
 -- before the first call on the disk
 pub returns-in_err-frame-clause-created : goal.returns-in_err-frame-clause-created
@@ -43,7 +43,7 @@ returns-in_err-frame-clause-created g c = λ tells payloads books held.
     let site = c.args.site.now in
     let p = err_from_is_err_and c.from_residual.result c.from_residual.ensures.1 in
     turns_err _ p.0 _ _ _ _ _ p.1
-    (none_during self (g.W.Site.outside site) payloads books (statement_text (statement.CreateTable c.args.create.now)) c.args.def (length self.schema.tables + 1) c.requires.usable.within held refl (g.met.W.Site.only_now site))
+    (none_during self (g.W.Site.outside site) payloads books (statement_text (statement.CreateTable c.args.create.now)) c.args.def (length self.schema.catalog.tables + 1) c.requires.usable.within held refl (g.met.W.Site.only_now site))
 
 pub returns-in_err-reserve_one-clause-created : goal.returns-in_err-reserve_one-clause-created
 returns-in_err-reserve_one-clause-created g c = λ tells payloads books held.
@@ -51,7 +51,7 @@ returns-in_err-reserve_one-clause-created g c = λ tells payloads books held.
     let site = c.args.site.now in
     let p = err_from_is_err_and c.from_residual-in_err-reserve_one.result c.from_residual-in_err-reserve_one.ensures.1 in
     turns_err _ p.0 _ _ _ _ _ p.1
-    (none_during self (g.W.Site.outside site) payloads books (statement_text (statement.CreateTable c.args.create.now)) c.args.def (length self.schema.tables + 1) c.requires.usable.within held refl (g.met.W.Site.only_now site))
+    (none_during self (g.W.Site.outside site) payloads books (statement_text (statement.CreateTable c.args.create.now)) c.args.def (length self.schema.catalog.tables + 1) c.requires.usable.within held refl (g.met.W.Site.only_now site))
 
 pub returns-in_err-reserve-clause-created : goal.returns-in_err-reserve-clause-created
 returns-in_err-reserve-clause-created g c = λ tells payloads books held.
@@ -59,14 +59,14 @@ returns-in_err-reserve-clause-created g c = λ tells payloads books held.
     let site = c.args.site.now in
     let p = err_from_is_err_and c.from_residual-in_err-reserve.result c.from_residual-in_err-reserve.ensures.1 in
     turns_err _ p.0 _ _ _ _ _ p.1
-    (none_during self (g.W.Site.outside site) payloads books (statement_text (statement.CreateTable c.args.create.now)) c.args.def (length self.schema.tables + 1) c.requires.usable.within held refl (g.met.W.Site.only_now site))
+    (none_during self (g.W.Site.outside site) payloads books (statement_text (statement.CreateTable c.args.create.now)) c.args.def (length self.schema.catalog.tables + 1) c.requires.usable.within held refl (g.met.W.Site.only_now site))
 
 -- the table's log is begun
 pub returns-in_err-table-clause-created : goal.returns-in_err-table-clause-created
 returns-in_err-table-clause-created g c = λ tells payloads books held.
     let self = c.args.self.now in
     let number = c.tables-number.result + 1 in
-    let is : number ≡ length self.schema.tables + 1 = ap (λ (n : ℕ). n + 1) (c.tables-number.ensures.count ∙ ap length c.in_ok-reserve_one.ensures.tables) in
+    let is : number ≡ length self.schema.catalog.tables + 1 = ap (λ (n : ℕ). n + 1) (c.tables-number.ensures.count ∙ ap (λ (catalog : Catalog). length catalog.tables) c.in_ok-reserve_one.ensures.catalog) in
     let p = err_from_is_err_and c.from_residual-in_err-table.result c.from_residual-in_err-table.ensures.1 in
     turns_err _ p.0 _ _ _ _ _ p.1
     (log_during self (g.W.Site.outside c.args.site.now) payloads books (statement_text (statement.CreateTable c.args.create.now)) c.args.def number c.requires.usable.within held is (g.W.Site.outside c.begin_table.new.site) (c.in_err-table.ensures.during tells))
@@ -77,13 +77,13 @@ returns-in_err-append-clause-created g c = λ tells payloads books held.
     let self = c.args.self.now in
     let site = c.args.site.now in
     let number = c.tables-number.result + 1 in
-    let is : number ≡ length self.schema.tables + 1 = ap (λ (n : ℕ). n + 1) (c.tables-number.ensures.count ∙ ap length c.in_ok-reserve_one.ensures.tables) in
+    let is : number ≡ length self.schema.catalog.tables + 1 = ap (λ (n : ℕ). n + 1) (c.tables-number.ensures.count ∙ ap (λ (catalog : Catalog). length catalog.tables) c.in_ok-reserve_one.ensures.catalog) in
     let begun = c.in_ok-table.ensures in
     let p = err_from_is_err_and c.from_residual-in_err-append.result c.from_residual-in_err-append.ensures.1 in
     turns_err _ p.0 _ _ _ _ _ p.1
     (made_during self (g.W.Site.outside site) payloads books (statement_text (statement.CreateTable c.args.create.now)) c.args.def number c.requires.usable.within held is (g.W.Site.outside c.begin_table.new.site) (g.W.Site.outside c.append.new.site) c.deref.result.now
     (begun.keeps.others tells) (begun.begun tells) (g.met.W.Site.reads site (table_log number)) (begun.keeps.said tells)
-    (makes_payload self.schema.tables (statement.CreateTable c.args.create.now) c.args.def c.requires.makes) (c.deref.ensures.value ∙ c.in_ok-frame.ensures) (begun.during tells) (c.in_err-append.ensures.during tells))
+    (makes_payload self.schema.catalog (statement.CreateTable c.args.create.now) c.args.def c.requires.makes) (c.deref.ensures.value ∙ c.in_ok-frame.ensures) (begun.during tells) (c.in_err-append.ensures.during tells))
 
 pub returns-in-Ok-clause-created : goal.returns-in-Ok-clause-created
 returns-in-Ok-clause-created g c = λ tells payloads books held.
@@ -97,13 +97,13 @@ returns-in-Ok-clause-created g c = λ tells payloads books held.
     let last = g.W.Site.outside c.append.new.site in
     let within = c.requires.usable.within in
     let number = c.tables-number.result + 1 in
-    let is : number ≡ length self.schema.tables + 1 = ap (λ (n : ℕ). n + 1) (c.tables-number.ensures.count ∙ ap length c.in_ok-reserve_one.ensures.tables) in
+    let is : number ≡ length self.schema.catalog.tables + 1 = ap (λ (n : ℕ). n + 1) (c.tables-number.ensures.count ∙ ap (λ (catalog : Catalog). length catalog.tables) c.in_ok-reserve_one.ensures.catalog) in
     let begun = c.in_ok-table.ensures in
     let appended = c.in_ok-append.ensures in
-    let sized = makes_payload self.schema.tables (statement.CreateTable c.args.create.now) def c.requires.makes in
+    let sized = makes_payload self.schema.catalog (statement.CreateTable c.args.create.now) def c.requires.makes in
     let spelled = c.deref.ensures.value ∙ c.in_ok-frame.ensures in
     let new : Store = record { catalog = c.append.new.self; schema = c.accept.new.self; tables = c.push.new.self } in
-    let made = is_made self number def table c.reserve_one.new.self c.reserve.new.self new within is begun.fresh appended.file c.in_ok-reserve_one.ensures.tables c.accept.ensures c.in_ok-reserve.ensures.items c.in-Ok.ensures.items in
+    let made = is_made self number def table c.reserve_one.new.self c.reserve.new.self new within is begun.fresh appended.file c.in_ok-reserve_one.ensures.catalog c.accept.ensures c.in_ok-reserve.ensures.items c.in-Ok.ensures.items in
     let ends = appended.appended tells payloads text (catalog_ready self old payloads books text def number within held is mid.files (begun.keeps.others tells)) sized spelled in
     let same = behind_same self number within old.files mid.files last.files (begun.keeps.others tells) (appended.keeps.others tells) in
     let empty = book_kept mid.files last.files number def table no_book (λ f its. same f (omega (arith, its))) made.held_as (begun.book tells (log_most self old payloads books text def number within held is)) in
@@ -126,18 +126,18 @@ returns-in-Ok-clause-logged g c = λ tells payloads commits holds most.
     let behind = (g.W.Site.outside c.append.new.site).files in
     let within = c.requires.usable.within in
     let number = c.tables-number.result + 1 in
-    let is : number ≡ length self.schema.tables + 1 = ap (λ (n : ℕ). n + 1) (c.tables-number.ensures.count ∙ ap length c.in_ok-reserve_one.ensures.tables) in
+    let is : number ≡ length self.schema.catalog.tables + 1 = ap (λ (n : ℕ). n + 1) (c.tables-number.ensures.count ∙ ap (λ (catalog : Catalog). length catalog.tables) c.in_ok-reserve_one.ensures.catalog) in
     let begun = c.in_ok-table.ensures in
     let appended = c.in_ok-append.ensures in
     let new : Store = record { catalog = c.append.new.self; schema = c.accept.new.self; tables = c.push.new.self } in
-    let made = is_made self number def table c.reserve_one.new.self c.reserve.new.self new within is begun.fresh appended.file c.in_ok-reserve_one.ensures.tables c.accept.ensures c.in_ok-reserve.ensures.items c.in-Ok.ensures.items in
+    let made = is_made self number def table c.reserve_one.new.self c.reserve.new.self new within is begun.fresh appended.file c.in_ok-reserve_one.ensures.catalog c.accept.ensures c.in_ok-reserve.ensures.items c.in-Ok.ensures.items in
     let most_now : (before (table_log number)).most ≤ 1 = subst (λ (n : ℕ). (before (table_log n)).most ≤ 1) (sym is) most in
     let at_log : table.log.file ≡ table_log number = made.held_as.0.log ∙ ap table_log made.held_as.1.number_is in
     let none = new_commits number table before between at_log (begun.begun tells) most_now (g.met.W.Site.reads site (table_log number)) (begun.book tells most_now) in
     let same = behind_same self number within before between behind (begun.keeps.others tells) (appended.keeps.others tells) in
     let empty = holds_commits_kept table between behind [] (same table.log.file (omega (arith, is, ap (λ (f : FileId). f.table) at_log))) none in
     let ready = subst (IsReady self.catalog.gate payloads) (sym (catalog_same self number within before between behind (begun.keeps.others tells) (appended.keeps.others tells) (omega (arith, is)))) holds.catalog in
-    let ends = appended.appended tells payloads text ready (makes_payload self.schema.tables (statement.CreateTable c.args.create.now) def c.requires.makes) (c.deref.ensures.value ∙ c.in_ok-frame.ensures) in
+    let ends = appended.appended tells payloads text ready (makes_payload self.schema.catalog (statement.CreateTable c.args.create.now) def c.requires.makes) (c.deref.ensures.value ∙ c.in_ok-frame.ensures) in
     made_logs self number def table new made before behind (tables_kept self number within before between behind (begun.keeps.others tells) (appended.keeps.others tells)) payloads (payloads ++ text ∷ []) commits holds
     (subst (λ (f : FileId). IsReady new.catalog.gate (payloads ++ text ∷ []) (behind f)) (sym made.file) ends) empty
 
@@ -151,14 +151,14 @@ returns-in-Ok-clause-usable g c =
     let behind = (g.W.Site.outside c.append.new.site).files in
     let within = c.requires.usable.within in
     let number = c.tables-number.result + 1 in
-    let is : number ≡ length self.schema.tables + 1 = ap (λ (n : ℕ). n + 1) (c.tables-number.ensures.count ∙ ap length c.in_ok-reserve_one.ensures.tables) in
+    let is : number ≡ length self.schema.catalog.tables + 1 = ap (λ (n : ℕ). n + 1) (c.tables-number.ensures.count ∙ ap (λ (catalog : Catalog). length catalog.tables) c.in_ok-reserve_one.ensures.catalog) in
     let begun = c.in_ok-table.ensures in
     let appended = c.in_ok-append.ensures in
     let new : Store = record { catalog = c.append.new.self; schema = c.accept.new.self; tables = c.push.new.self } in
-    let made = is_made self number def table c.reserve_one.new.self c.reserve.new.self new within is begun.fresh appended.file c.in_ok-reserve_one.ensures.tables c.accept.ensures c.in_ok-reserve.ensures.items c.in-Ok.ensures.items in
+    let made = is_made self number def table c.reserve_one.new.self c.reserve.new.self new within is begun.fresh appended.file c.in_ok-reserve_one.ensures.catalog c.accept.ensures c.in_ok-reserve.ensures.items c.in-Ok.ensures.items in
     record {
-      within = made_within self number def table new made (makes_few self.schema.tables (statement.CreateTable c.args.create.now) def c.requires.makes)
-          (omega (arith, appended.gate, ap length (c.deref.ensures.value ∙ c.in_ok-frame.ensures), makes_frame self.schema.tables (statement.CreateTable c.args.create.now) def c.requires.makes));
+      within = made_within self number def table new made (omega (arith, makes_few self.schema.catalog (statement.CreateTable c.args.create.now) def c.requires.makes))
+          (omega (arith, appended.gate, ap length (c.deref.ensures.value ∙ c.in_ok-frame.ensures), makes_frame self.schema.catalog (statement.CreateTable c.args.create.now) def c.requires.makes));
       placed = λ tells.
           let same = behind_same self number within before between behind (begun.keeps.others tells) (appended.keeps.others tells) in
           made_placed self number def table new made before behind (tables_kept self number within before between behind (begun.keeps.others tells) (appended.keeps.others tells)) (c.requires.usable.placed tells)

@@ -23,7 +23,7 @@ returns-clause-rows g c tells =
     let files = (g.W.Site.outside c.args.site.now).files in
     let at = table_of self table held c.requires.within c.requires.table c.index.ensures in
     IfOk-weaker c.rows.result _
-    (λ rows. (def : TableDef) → slice_get self.schema.tables (table - 1) ≡ Some def → (payloads : List (List ℕ)) (books : ℕ → Book) → HoldsBooks self files payloads books → rows ≡ normal_rows (form_of def) (rows_in (books table)))
+    (λ rows. (def : TableDef) → slice_get self.schema.catalog.tables (table - 1) ≡ Some def → (payloads : List (List ℕ)) (books : ℕ → Book) → HoldsBooks self files payloads books → rows ≡ normal_rows (form_of def) (rows_in (books table)))
     (λ rows are def stands payloads books holds.
     are (books table) (its_book self table held at files payloads books holds) ∙ ap (λ form. normal_rows form (rows_in (books table))) (its_form self table held at def stands))
     (c.rows.ensures.rows tells)
