@@ -1,6 +1,7 @@
 pub mod BlockLemmas
 pub mod CutLemmas
 pub mod DefaultLemmas
+pub mod FitLemmas
 pub mod JoinedLemmas
 pub mod LawLemmas
 pub mod PieceLemmas

@@ -26,7 +26,6 @@ use Rattle.chv_table.specs.declared.fault.PutFault.TheVariants as put
 use Rattle.chv_table.specs.declared.table.Table.{Table}
 use Rattle.chv_text.specs.Replies.{insert_line}
 use Rattle.chv_types.specs.Steps.{and_then, refuse_if}
-use Rattle.chv_types.specs.Values.{IsPlain}
 use Rattle.chv_types.specs.declared.kind.Kind.{Kind}
 use Rattle.chv_history.specs.Crashes.{IsLeftBy}
 use Rattle.chv_history.specs.Events.{Moment, Plan}
@@ -46,13 +45,7 @@ use Rattle.chv_engine.proofs.PlanLemmas.{delivers-length, delivers-table, fits, 
 kinds_are : (number : ℕ) (def : TableDef) (table : Table) → IsTableOf number def table → table.kinds ≡ kinds_of def
 kinds_are number def table of = ap (λ (form : TableForm). form.kinds) of.form_is
 
--- no column of a store's tables is a state, and no table has more than 64
-pub all_plain : (store : Store) → IsWithin store → All (λ (def : TableDef). All IsPlain (kinds_of def)) store.schema.catalog.tables
-all_plain store within =
-    each-def IsHeldAs (λ (def : TableDef). All IsPlain (kinds_of def)) 1 store.schema.catalog.tables store.tables.items
-    (λ n def table held. subst (All IsPlain) (kinds_are n def table held.1) held.0.columns.plain)
-    within.tables
-
+-- no table of a store has more than 64 columns
 pub all_few : (store : Store) → IsWithin store → All (λ (def : TableDef). length (kinds_of def) ≤ 64) store.schema.catalog.tables
 all_few store within =
     each-def IsHeldAs (λ (def : TableDef). length (kinds_of def) ≤ 64) 1 store.schema.catalog.tables store.tables.items

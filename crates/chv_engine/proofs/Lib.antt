@@ -1,5 +1,4 @@
 pub mod AnswerLemmas
-pub mod BuiltLaws
 pub mod CreateLemmas
 pub mod DeliverLemmas
 pub mod DoneLemmas

@@ -1,2 +1,2 @@
-pub mod PlainLemmas
+pub mod FewLemmas
 pub mod WrittenLemmas

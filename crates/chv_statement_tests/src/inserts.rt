@@ -1,32 +1,21 @@
 // INSERT statements and what they bring, written by hand.
-ghost use Rattle.std.specs.Prelude.{◌≤◌, ◌≡◌, not, length, IfSome};
-ghost use Rattle.std.specs.List.{All, list_all};
-ghost use Rattle.chv_catalog.specs.Checks.{is_state};
+ghost use Rattle.std.specs.Prelude.{◌≤◌, length, IfSome};
+ghost use Rattle.std.specs.List.{All};
 ghost use Rattle.chv_catalog.specs.Schemas.{kinds_of};
-ghost use Rattle.chv_types.specs.Values.{IsPlain};
 
 use crate::making::{defined, statement_of};
 use chv_ast::Statement;
-use chv_catalog::{Schema, StatementFault, TableDef, is_state};
+use chv_catalog::{Schema, StatementFault, TableDef};
 use chv_plan::{Delivery, Plan, plan_insert};
 use chv_sip::BlockId;
-use chv_types::Column;
 use std::alloc::Global;
 
-// Whether no column is a state.
-fn are_plain(columns: &[Column]) -> bool
-    ensures { result ≡ list_all (λ column. not (is_state column.kind)) columns.now }
-{
-    columns.iter().all(|column| !is_state(column.kind))
-}
-
-// A schema of one table, of at most 64 columns of plain kinds.
-#[tactic(auto, using(crate::proofs::PlainLemmas::plain_table, crate::proofs::PlainLemmas::few_table))]
+// A schema of one table, of at most 64 columns.
+#[tactic(auto, using(crate::proofs::FewLemmas::few_table))]
 fn schema_of(alloc: Global, def: TableDef) -> Option<Schema>
-    ensures plain { IfSome result (λ schema. All (λ def. All IsPlain (kinds_of def)) schema.catalog.tables) }
     ensures few { IfSome result (λ schema. All (λ def. length (kinds_of def) ≤ 64) schema.catalog.tables) }
 {
-    if def.columns.len() > 64 || !are_plain(def.columns.as_slice()) {
+    if def.columns.len() > 64 {
         return None;
     }
     let mut schema = Schema::new(alloc);
@@ -39,7 +28,6 @@ fn schema_of(alloc: Global, def: TableDef) -> Option<Schema>
 
 // The table `t`, sorted by its third column.
 fn one_table(alloc: Global) -> Option<Schema>
-    ensures plain { IfSome result (λ schema. All (λ def. All IsPlain (kinds_of def)) schema.catalog.tables) }
     ensures few { IfSome result (λ schema. All (λ def. length (kinds_of def) ≤ 64) schema.catalog.tables) }
 {
     let text = b"CREATE TABLE t (a Int8, b Bool, c String, d UInt8) ENGINE = MergeTree ORDER BY c";
@@ -51,7 +39,6 @@ fn one_table(alloc: Global) -> Option<Schema>
 
 // What a text brings to a table; None where it is no INSERT.
 fn planned(alloc: Global, schema: &Schema, text: &[u8]) -> Option<Result<Plan, StatementFault>>
-    requires plain { All (λ def. All IsPlain (kinds_of def)) schema.now.catalog.tables }
     requires few { All (λ def. length (kinds_of def) ≤ 64) schema.now.catalog.tables }
 {
     match statement_of(alloc, text) {

@@ -36,4 +36,4 @@ module _ (catalog : Catalog) (create : Statement) (def : TableDef) (makes : Make
   pub makes_columns : AreColumns (kinds_of def)
   makes_columns =
       let many = accepted.made_columns catalog create def makes.built makes.passes.defines makes.passes.formed in
-      record { some = many.0; most = many.1; plain = accepted.made_plain catalog create def makes.built makes.passes.defines }
+      record { some = many.0; most = many.1 }

@@ -2,6 +2,8 @@
 ghost use Rattle.std.specs.Prelude.{◌≡◌, ◌-◌, List, ℕ, Some, slice_get, IfOk, OnOk, IsErrOf};
 ghost use Rattle.chv_catalog.specs.declared.table_def.TableDef.{TableDef};
 ghost use Rattle.chv_part.specs.Books.{Book, normal_rows, rows_in};
+ghost use Rattle.chv_block.specs.Spellings.{AllAreOf};
+ghost use Rattle.chv_catalog.specs.Schemas.{kinds_of};
 ghost use Rattle.chv_part.specs.Forms.{form_of};
 ghost use Rattle.chv_part.specs.declared.damage.Damage.{Damage};
 ghost use Rattle.chv_site.specs.Effects.{OnlyReads};
@@ -30,6 +32,7 @@ impl Store {
         requires table { IsTable self.now table }
         ensures rows { W.tells → IfOk result (λ rows. (def : TableDef) → slice_get self.now.schema.catalog.tables (table - 1) ≡ Some def → (payloads : List (List ℕ)) (books : ℕ → Book)
             → HoldsBooks self.now (W.outside site.old).files payloads books → rows ≡ normal_rows (form_of def) (rows_in (books table))) }
+        ensures kinds { IfOk result (λ rows. (def : TableDef) → slice_get self.now.schema.catalog.tables (table - 1) ≡ Some def → AllAreOf (kinds_of def) rows) }
         ensures whole { W.tells → OnOk result ((def : TableDef) → slice_get self.now.schema.catalog.tables (table - 1) ≡ Some def
             → ArePartsWhole table (form_of def) (state_of self.now table).layout (bytes_in (W.outside site.old))) }
         ensures damaged { W.tells → (damage : Damage) → IsErrOf result (TableFault.Damaged damage) → (def : TableDef) → slice_get self.now.schema.catalog.tables (table - 1) ≡ Some def

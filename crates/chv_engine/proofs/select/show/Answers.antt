@@ -1,6 +1,8 @@
 -- The rows are read, and what a query gives over them is said; or the call ends before.
-use Rattle.std.proofs.Common.{true, false, Ok, Err, IsErrOf, sym, ap, subst, ◌∙◌}
+use Rattle.std.proofs.Common.{◌≡◌, ◌-◌, ℕ, Some, slice_get, true, false, Ok, Err, IsErrOf, sym, ap, subst, ◌∙◌}
 use Rattle.std.proofs.lemmas.Result.{err_from_is_err_and}
+use Rattle.chv_block.proofs.FitLemmas.{rows_fit}
+use Rattle.chv_catalog.specs.Schemas.{kinds_of}
 use Rattle.chv_catalog.specs.declared.fault.StatementFault.{StatementFault}
 use Rattle.chv_select.specs.Answers.{IsAnswer}
 use Rattle.chv_table.specs.declared.fault.TableFault.TheVariants.{Failed}
@@ -12,6 +14,13 @@ pub rows-requires-clause-table : goal.rows-requires-clause-table
 rows-requires-clause-table g c =
     let asked = c.requires.prepared in
     query_table c.args.store.now asked.0 c.table.result (c.table.ensures ∙ asked.1.table) asked.2
+
+pub answer-requires : goal.answer-requires
+answer-requires g c =
+    let asked = c.requires.prepared in
+    let same : c.table.result ≡ asked.0.table = c.table.ensures ∙ asked.1.table in
+    let stands = subst (λ (n : ℕ). slice_get c.args.store.now.schema.catalog.tables (n - 1) ≡ Some asked.0.def) (sym same) asked.2.stands in
+    record { fit = (asked.0, asked.1, rows_fit (kinds_of asked.0.def) c.in_ok-rows.rows (c.in_ok-rows.ensures.kinds asked.0.def stands)) }
 
 pub returns-in_err-rows : goal.returns-in_err-rows
 returns-in_err-rows g c = λ query prepared of_store.

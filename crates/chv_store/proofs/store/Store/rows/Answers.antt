@@ -1,8 +1,11 @@
 -- The rows of the table of a number.
-use Rattle.std.proofs.Common.{◌≡◌, ◌-◌, ℕ, List, Some, slice_get, ap, ◌∙◌, arith}
+use Rattle.std.proofs.Common.{◌≡◌, ◌-◌, ℕ, List, Some, slice_get, ap, subst, ◌∙◌, arith}
+use Rattle.chv_types.specs.declared.kind.Kind.{Kind}
 use Rattle.std.proofs.lemmas.Result.{IfOk-weaker, on_ok_weaker}
 use Rattle.chv_catalog.specs.declared.table_def.TableDef.{TableDef}
-use Rattle.chv_part.specs.Books.{Book, normal_rows, rows_in}
+use Rattle.chv_block.specs.Spellings.{AllAreOf}
+use Rattle.chv_catalog.specs.Schemas.{kinds_of}
+use Rattle.chv_part.specs.Books.{Book, TableForm, normal_rows, rows_in}
 use Rattle.chv_part.specs.Forms.{form_of}
 use Rattle.chv_site.specs.Outside.{bytes_in}
 use Rattle.chv_store.specs.Holding.{HoldsBooks}
@@ -41,3 +44,13 @@ returns-clause-damaged g c tells damage is def stands =
     let held = c.index.result.now in
     let at = table_of self c.args.table held c.requires.within c.requires.table c.index.ensures in
     damage_of self c.args.table held at def stands (bytes_in (g.W.Site.outside c.args.site.now)) damage (c.rows.ensures.damaged tells damage is)
+
+pub returns-clause-kinds : goal.returns-clause-kinds
+returns-clause-kinds g c =
+    let self = c.args.self.now in
+    let held = c.index.result.now in
+    let at = table_of self c.args.table held c.requires.within c.requires.table c.index.ensures in
+    IfOk-weaker c.rows.result _
+    (λ rows. (def : TableDef) → slice_get self.schema.catalog.tables (c.args.table - 1) ≡ Some def → AllAreOf (kinds_of def) rows)
+    (λ rows are def stands. subst (λ (kinds : List Kind). AllAreOf kinds rows) (ap (λ (form : TableForm). form.kinds) (its_form self c.args.table held at def stands)) are)
+    c.rows.ensures.kinds
