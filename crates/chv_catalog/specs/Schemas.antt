@@ -1,5 +1,5 @@
--- The tables of a store.
-use Rattle.std.specs.Prelude.{ℕ, ◌<◌, ◌≤◌, List, [], ◌∷◌, map, Option, None, Some}
+-- The tables and the views of a store.
+use Rattle.std.specs.Prelude.{ℕ, ◌+◌, ◌<◌, ◌≤◌, List, [], ◌∷◌, ◌++◌, length, map, Option, None, Some}
 use Rattle.std.specs.List.{Contains}
 use Rattle.std.specs.declared.alloc.Global.{Global}
 use Rattle.std.specs.declared.vec.Vec.{Vec}
@@ -8,10 +8,32 @@ use Rattle.chv_types.specs.declared.kind.Kind.{Kind}
 pub use Rattle.chv_types.specs.Names.{place_of}
 use Rattle.chv_catalog.specs.Names.{Named}
 use Rattle.chv_catalog.specs.declared.table_def.TableDef.{TableDef}
+use Rattle.chv_catalog.specs.declared.view_def.ViewDef.{ViewDef}
+
+-- what is defined: the tables in order of creation, and the views, of which there are none yet
+pub record Catalog : Type 0 where
+  pub tables : List TableDef
+  pub views : List ViewDef
+
+-- nothing is defined
+abbrev pub no_definitions : Catalog
+no_definitions = record { tables = []; views = [] }
+
+-- a table is defined behind the others
+abbrev pub with_table : TableDef → Catalog → Catalog
+with_table def catalog = record catalog { tables = catalog.tables ++ def ∷ [] }
 
 -- the names of tables, in order
-abbrev pub names_of : List TableDef → List (List ℕ)
-names_of defs = map (λ def. def.name) defs
+abbrev pub table_names : List TableDef → List (List ℕ)
+table_names defs = map (λ def. def.name) defs
+
+-- the names that are taken: those of the tables, then those of the views
+abbrev pub names_of : Catalog → List (List ℕ)
+names_of catalog = table_names catalog.tables ++ map (λ view. view.name) catalog.views
+
+-- how many tables and views are defined
+abbrev pub definitions_in : Catalog → ℕ
+definitions_in catalog = length catalog.tables + length catalog.views
 
 -- the kinds of a table's columns
 abbrev pub kinds_of : TableDef → List Kind
@@ -30,9 +52,9 @@ AreDistinct (name ∷ names) = (Contains names name → ⊥) × AreDistinct name
 abbrev pub MAX_DEFINITIONS : ℕ
 MAX_DEFINITIONS = 256
 
--- what is held: the tables in order of creation, and the name for which there is room, if for any
+-- what is held: what is defined, and the name for which there is room, if for any
 pub record Seen : Type 0 where
-  pub tables : List TableDef
+  pub catalog : Catalog
   pub room : Option (List ℕ)
 
 -- where there is a name for it, there is room in memory for a table more, and for its name beside those of the others

@@ -8,6 +8,7 @@ mod names;
 mod number;
 mod schema;
 mod table_def;
+mod view_def;
 
 pub use fault::StatementFault;
 pub use kind::is_state;
@@ -15,3 +16,4 @@ pub use named::{Named, has_repeat, has_unknown, place, places_of};
 pub use number::number_within;
 pub use schema::Schema;
 pub use table_def::TableDef;
+pub use view_def::ViewDef;

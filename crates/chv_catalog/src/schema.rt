@@ -1,6 +1,6 @@
 // The schema.
 ghost use Rattle.std.specs.Prelude.{◌≡◌, ◌++◌, ◌∷◌, ◌+◌, ◌<◌, ◌≤◌, ◌-◌, [], ℕ, length, map, is_some, option_map, slice_get, Some, None, OnOk, OnErr, IfSome};
-ghost use Rattle.chv_catalog.specs.Schemas.{names_of, place_of, MAX_DEFINITIONS};
+ghost use Rattle.chv_catalog.specs.Schemas.{definitions_in, names_of, no_definitions, place_of, table_names, with_table, MAX_DEFINITIONS};
 
 use crate::TableDef;
 use crate::names::Names;
@@ -18,16 +18,20 @@ pub struct Schema {
 }
 
 impl Model for Schema {
-    ghost use Rattle.std.specs.Prelude.{List, Option, length, ◌≤◌, ◌<◌, ◌+◌, ◌≡◌, Some, None, option_map, ⊤};
-    ghost use Rattle.chv_catalog.specs.Schemas.{Seen, MAX_DEFINITIONS, HasRoom, names_of};
+    ghost use Rattle.std.specs.Prelude.{List, [], Option, length, ◌≤◌, ◌<◌, ◌+◌, ◌≡◌, Some, None, option_map, ⊤};
+    ghost use Rattle.chv_catalog.specs.Schemas.{Seen, MAX_DEFINITIONS, HasRoom, table_names};
+    ghost use Rattle.std.specs.Coded.{codes};
+    ghost use Rattle.chv_ast.specs.contracts.expr.Expr as expr;
 
     ghost Value = { Seen };
 
-    ghost view = { λ s. record { tables = s.tables.items; room = option_map (λ v. v.items) s.room } };
+    ghost coded = { Prim.hlevel (codes, expr.the_row.coded) };
+
+    ghost view = { λ s. record { catalog = record { tables = s.tables.items; views = [] }; room = option_map (λ v. v.items) s.room } };
 
     ghost invariant = { λ s. record {
       few : length s.tables.items ≤ MAX_DEFINITIONS;
-      names : s.names.names ≡ names_of s.tables.items;
+      names : s.names.names ≡ table_names s.tables.items;
       room : HasRoom s.tables s.names s.room;
     } };
 }
@@ -35,7 +39,7 @@ impl Model for Schema {
 impl Schema {
     /// No tables.
     pub fn new(alloc: Global) -> Schema
-        ensures { result ≡ record { tables = []; room = None } }
+        ensures { result ≡ record { catalog = no_definitions; room = None } }
     {
         Schema {
             tables: Vec::new(alloc),
@@ -46,7 +50,7 @@ impl Schema {
 
     /// Makes room for one table of this name. Room for another name is given up.
     pub fn reserve_one(&mut self, alloc: Global, name: &[u8]) -> Result<(), AllocError>
-        ensures tables { self.new.tables ≡ self.old.tables }
+        ensures catalog { self.new.catalog ≡ self.old.catalog }
         ensures room { OnOk result (self.new.room ≡ Some name.now) }
         ensures err { OnErr result (self.new ≡ self.old) }
     {
@@ -60,9 +64,9 @@ impl Schema {
     /// Puts a table behind those that stand. It takes no memory.
     pub fn accept(&mut self, def: TableDef)
         requires room { self.old.room ≡ Some def.name }
-        requires free { place_of def.name (names_of self.old.tables) ≡ None }
-        requires few { length self.old.tables < MAX_DEFINITIONS }
-        ensures { self.new ≡ record { tables = self.old.tables ++ def ∷ []; room = None } }
+        requires free { place_of def.name (names_of self.old.catalog) ≡ None }
+        requires few { definitions_in self.old.catalog < MAX_DEFINITIONS }
+        ensures { self.new ≡ record { catalog = with_table def self.old.catalog; room = None } }
     {
         if let Some(name) = self.room.take() {
             self.names.add(name);
@@ -77,7 +81,7 @@ impl Schema {
 
     /// The number of the table of a name; None exactly where no table has it.
     pub fn table(&self, name: &[u8]) -> Option<u32>
-        ensures { result ≡ option_map (λ place. place + 1) (place_of name.now (names_of self.now.tables)) }
+        ensures { result ≡ option_map (λ place. place + 1) (place_of name.now (table_names self.now.catalog.tables)) }
     {
         let place = self.place(name)?;
         Some(place as u32 + 1)
@@ -85,23 +89,30 @@ impl Schema {
 
     // The place of the table of a name.
     fn place(&self, name: &[u8]) -> Option<usize>
-        ensures place { result ≡ place_of name.now (names_of self.now.tables) }
+        ensures place { result ≡ place_of name.now (table_names self.now.catalog.tables) }
         ensures within { IfSome result (λ place. place < MAX_DEFINITIONS) }
     {
         self.names.place(name)
     }
 
-    /// Whether a table has this name.
+    /// Whether a table or a view has this name.
     pub fn taken(&self, name: &[u8]) -> bool
-        ensures { result ≡ is_some (place_of name.now (names_of self.now.tables)) }
+        ensures { result ≡ is_some (place_of name.now (names_of self.now.catalog)) }
     {
-        self.place(name).is_some()
+        self.names.place(name).is_some()
     }
 
     /// How many tables stand.
     pub fn tables(&self) -> u32
-        ensures count { result ≡ length self.now.tables }
+        ensures count { result ≡ length self.now.catalog.tables }
         ensures most { result ≤ MAX_DEFINITIONS }
+    {
+        self.tables.len() as u32
+    }
+
+    /// How many tables and views stand.
+    pub fn definitions(&self) -> u32
+        ensures { result ≡ definitions_in self.now.catalog }
     {
         self.tables.len() as u32
     }
@@ -109,8 +120,8 @@ impl Schema {
     /// The table of a number, which is one of the schema's.
     pub fn table_def(&self, table: u32) -> &TableDef
         requires first { 1 ≤ table }
-        requires last { table ≤ length self.now.tables }
-        ensures { slice_get self.now.tables (table - 1) ≡ Some result.now }
+        requires last { table ≤ length self.now.catalog.tables }
+        ensures { slice_get self.now.catalog.tables (table - 1) ≡ Some result.now }
     {
         &self.tables[table as usize - 1]
     }

@@ -1,11 +1,11 @@
 -- The kinds that names stand for.
-use Rattle.std.proofs.Common.{◌≡◌, ◌≢◌, ℕ, Bool, true, false, List, [], ◌∷◌, Option, Some, None, refl}
+use Rattle.std.proofs.Common.{◌≡◌, ◌≢◌, ℕ, Bool, false, List, [], ◌∷◌, Option, Some, None, refl}
 use Rattle.std.specs.Option.{IfSome, IsNone, ok_or}
 use Rattle.std.specs.Str.{bytes_eq}
 use Rattle.std.proofs.lemmas.Bool.{false_from_ne_true}
 use Rattle.std.proofs.lemmas.Slice.Eq.{bytes_eq-Decides}
 use Rattle.chv_ast.specs.declared.refusal.Refusal.TheVariants.{TypeMismatch}
-use Rattle.chv_define.specs.Definitions.{first_with, scalar_of, scalars, state_of, state_over}
+use Rattle.chv_query.specs.Definitions.{first_with, scalar_of, scalars, state_of, state_over}
 use Rattle.chv_types.specs.Kinds.{scalar_name}
 use Rattle.chv_types.specs.Steps.{and_then, or_refuse}
 use Rattle.chv_types.specs.declared.aggregate.AggName.{AggName}

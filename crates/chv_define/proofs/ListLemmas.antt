@@ -4,7 +4,7 @@ use Rattle.std.specs.List.{list_any}
 use Rattle.chv_ast.specs.declared.refusal.Refusal.{Refusal}
 use Rattle.chv_ast.specs.declared.statement.ColumnDef.{ColumnDef}
 use Rattle.chv_catalog.specs.Checks.{is_state}
-use Rattle.chv_define.specs.Definitions.{columns_of, has_loose, has_state, kind_of}
+use Rattle.chv_query.specs.Definitions.{columns_of, has_loose, has_state, kind_of}
 use Rattle.chv_types.specs.Names.{place_of}
 use Rattle.chv_types.specs.Steps.{and_then}
 use Rattle.chv_types.specs.declared.kind.Kind.{Kind}

@@ -1,5 +1,5 @@
 -- The checks of a definition, in groups.
-use Rattle.std.specs.Prelude.{ℕ, not, ◌&&◌, nat_lt, List, length, map, is_some, Option, Result, Ok}
+use Rattle.std.specs.Prelude.{ℕ, not, ◌&&◌, nat_lt, List, length, is_some, Result, Ok}
 use Rattle.std.specs.List.{list_any}
 use Rattle.chv_ast.specs.declared.refusal.Refusal.{Refusal}
 use Rattle.chv_ast.specs.declared.refusal.Refusal.TheVariants.{UnknownColumn, NameTaken, TypeMismatch, ColumnNotMergeable, LimitPassed}
@@ -8,23 +8,18 @@ use Rattle.chv_ast.specs.declared.statement.CreateTable.{CreateTable}
 use Rattle.chv_ast.specs.declared.statement.EngineWord.{EngineWord}
 use Rattle.chv_ast.specs.declared.statement.Statement.TheVariants as statement
 use Rattle.chv_catalog.specs.Checks.{has_repeat, is_unknown}
-use Rattle.chv_catalog.specs.Schemas.{names_of}
-use Rattle.chv_catalog.specs.declared.table_def.TableDef.{TableDef}
-use Rattle.chv_define.specs.Definitions.{has_loose, has_state, is_aggregating}
+use Rattle.chv_catalog.specs.Schemas.{Catalog, definitions_in, names_of}
+use Rattle.chv_query.specs.Definitions.{column_names, has_loose, has_state, is_aggregating}
 use Rattle.chv_print.specs.StatementTexts.{statement_text}
 use Rattle.chv_types.specs.Names.{place_of}
 use Rattle.chv_types.specs.Steps.{refuse_if}
 use Rattle.chv_types.specs.declared.table.Column.{Column}
 
--- the names of columns
-abbrev pub column_names : List ColumnDef → List (List ℕ)
-column_names columns = map (λ column. column.name) columns
-
 -- the checks in front of the columns' kinds
-unfoldable pub checked_names : List TableDef → List ℕ → List ColumnDef → Result (Unit {0}) Refusal
-checked_names tables name columns =
-    refuse_if (is_some (place_of name (names_of tables))) NameTaken
-    (refuse_if (not (nat_lt (length tables) 256)) LimitPassed
+unfoldable pub checked_names : Catalog → List ℕ → List ColumnDef → Result (Unit {0}) Refusal
+checked_names catalog name columns =
+    refuse_if (is_some (place_of name (names_of catalog))) NameTaken
+    (refuse_if (not (nat_lt (definitions_in catalog) 256)) LimitPassed
     (refuse_if (nat_lt 64 (length columns)) LimitPassed
     (refuse_if (has_repeat (column_names columns)) NameTaken (Ok tt))))
 

@@ -1,12 +1,12 @@
 // Which tables are built.
 ghost use Rattle.std.specs.Prelude.{◌≡◌};
 ghost use Rattle.std.specs.List.{list_all};
-ghost use Rattle.chv_define.specs.Accepted.{is_built_table, is_plain};
+ghost use Rattle.chv_query.specs.Accepted.{is_built_table, is_plain};
 
 use chv_ast::{ColumnDef, CreateTable, EngineWord, KindWord};
 
 /// Whether a statement makes a table that is built: without states, and without merges of states.
-#[tactic(auto, unfolding(crate::specs::Accepted::is_built_table))]
+#[tactic(auto, unfolding(chv_query::specs::Accepted::is_built_table))]
 pub fn is_built_table(made: &CreateTable) -> bool
     ensures { result ≡ is_built_table made.now }
 {

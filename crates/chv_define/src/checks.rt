@@ -2,7 +2,7 @@
 ghost use Rattle.std.specs.Prelude.{◌≡◌, ◌≤◌, length, is_some, Ok, Err, OnOk, IfOk, IfErr};
 ghost use Rattle.chv_ast.specs.declared.refusal.Refusal.{Refusal};
 ghost use Rattle.chv_define.specs.Checks.{checked_key, checked_names, checked_text};
-ghost use Rattle.chv_define.specs.Definitions as spec;
+ghost use Rattle.chv_query.specs.Definitions as spec;
 ghost use Rattle.chv_types.specs.Names.{place_of};
 ghost use Rattle.chv_types.specs.Steps.{refuse_if};
 
@@ -33,11 +33,11 @@ fn refuse_if(bad: bool, refusal: Refusal) -> Result<(), Refusal>
 /// The name is free, there is room for a definition, and there are 64 columns at most, whose names differ.
 #[tactic(auto, unfolding(crate::specs::Checks::checked_names))]
 pub fn check_names(schema: &Schema, name: &Name, columns: &ColumnDefs) -> Result<(), Refusal>
-    ensures checked { result ≡ checked_names schema.now.tables name.now columns.now }
+    ensures checked { result ≡ checked_names schema.now.catalog name.now columns.now }
     ensures few { IfOk result (λ _. length columns.now ≤ 64) }
 {
     refuse_if(schema.taken(name.as_slice()), Refusal::NameTaken)?;
-    refuse_if(schema.tables() >= MAX_DEFINITIONS, Refusal::LimitPassed)?;
+    refuse_if(schema.definitions() >= MAX_DEFINITIONS, Refusal::LimitPassed)?;
     refuse_if(columns.len() > MAX_COLUMNS, Refusal::LimitPassed)?;
     refuse_if(has_repeat(columns.as_slice()), Refusal::NameTaken)
 }

@@ -2,7 +2,7 @@
 ghost use Rattle.std.specs.Prelude.{◌≡◌, IfOk, IfErr};
 ghost use Rattle.chv_ast.specs.declared.refusal.Refusal.{Refusal};
 ghost use Rattle.chv_ast.specs.declared.refusal.Refusal.TheVariants.{TypeMismatch, UnknownFunction};
-ghost use Rattle.chv_define.specs.Definitions as spec;
+ghost use Rattle.chv_query.specs.Definitions as spec;
 ghost use Rattle.chv_types.specs.Steps.{or_refuse};
 
 use chv_ast::{ColumnDefs, KindWord, Name, Refusal};
@@ -27,7 +27,7 @@ pub fn columns_of(alloc: Global, defs: &ColumnDefs) -> Result<Columns, Statement
 }
 
 // The kind that a column's words write.
-#[tactic(auto, unfolding(crate::specs::Definitions::kind_of))]
+#[tactic(auto, unfolding(chv_query::specs::Definitions::kind_of))]
 fn kind_of(word: &KindWord) -> Result<Kind, Refusal>
     ensures { result ≡ spec.kind_of word.now }
 {

@@ -1,7 +1,7 @@
 // CREATE TABLE.
 ghost use Rattle.std.specs.Prelude.{◌≡◌, Ok, Err, IfOk, IfErr};
 ghost use Rattle.chv_ast.specs.declared.refusal.Refusal.{Refusal};
-ghost use Rattle.chv_define.specs.Definitions.{defined, engine_of};
+ghost use Rattle.chv_query.specs.Definitions.{defined, engine_of};
 
 use crate::checks::{check_key, check_names, check_text, window_of};
 use crate::kinds::columns_of;
@@ -10,15 +10,15 @@ use chv_catalog::{Schema, StatementFault, TableDef, places_of};
 use chv_types::Engine;
 use std::alloc::Global;
 
-/// The table that a CREATE TABLE statement defines beside the tables that stand. It is refused by the first check that
-/// holds.
+/// The table that a CREATE TABLE statement defines beside the tables and views that stand. It is refused by the first check
+/// that holds.
 pub fn define(
     alloc: Global,
     schema: &Schema,
     made: &CreateTable,
 ) -> Result<TableDef, StatementFault>
-    ensures defined { IfOk result (λ def. defined schema.now.tables made.now ≡ Ok def) }
-    ensures refused { IfErr result (λ fault. (refusal : Refusal) → fault ≡ StatementFault.Refused refusal → defined schema.now.tables made.now ≡ Err refusal) }
+    ensures defined { IfOk result (λ def. defined schema.now.catalog made.now ≡ Ok def) }
+    ensures refused { IfErr result (λ fault. (refusal : Refusal) → fault ≡ StatementFault.Refused refusal → defined schema.now.catalog made.now ≡ Err refusal) }
 {
     check_names(schema, &made.name, &made.columns)?;
     let columns = columns_of(alloc, &made.columns)?;

@@ -5,11 +5,11 @@ use Rattle.std.proofs.lemmas.List.{append-nil, length-append, length-take, map-a
 use Rattle.std.proofs.lemmas.List.Elements.{All-nil, All-cons, All-head, All-tail, All-append, All-push, All-weaker, Contains-append_left, Contains-push}
 use Rattle.chv_ast.specs.declared.refusal.Refusal.{Refusal}
 use Rattle.chv_ast.specs.declared.statement.Statement.{Statement}
-use Rattle.chv_define.specs.Accepted.{Accepted, tables_in, tables_of}
-use Rattle.chv_define.proofs.AcceptedLemmas.{tables_of-push}
+use Rattle.chv_query.specs.Accepted.{Accepted, catalog_of, tables_in, tables_of}
+use Rattle.chv_query.proofs.AcceptedLemmas.{tables_of-push}
 use Rattle.chv_part.specs.Forms.{form_of}
-use Rattle.chv_plan.specs.Arrivals.{Arrival}
-use Rattle.chv_plan.specs.Plans.{Delivery, planned}
+use Rattle.chv_query.specs.Arrivals.{Arrival}
+use Rattle.chv_query.specs.Plans.{Delivery, planned}
 use Rattle.chv_query.specs.Queries.{divides}
 use Rattle.chv_site.specs.Files.{IsFrontOf}
 use Rattle.chv_sip.specs.declared.block_id.BlockId.{BlockId}
@@ -233,17 +233,17 @@ holding_answer client (Err refuses) done m known held = holding_reply (refused_l
 planned_known : (plans : Result Plan Refusal) (plan : Plan) (P : Plan → Type 0) → IfOk plans P → plans ≡ Ok plan → P plan
 planned_known plans plan P holds same = subst (λ (r : Result Plan Refusal). IfOk r P) same holds
 
-pub known_task : (asked : Option Statement) (history : History) → IfOk (task_of (tables_of history.schema) (entries_in history) asked) (TaskKnown history)
+pub known_task : (asked : Option Statement) (history : History) → IfOk (task_of (catalog_of history.schema) (entries_in history) asked) (TaskKnown history)
 known_task asked history =
-    task_holds (tables_of history.schema) (entries_in history) (TaskKnown history) (λ select query asks. tt) (λ table def. tt) asked (λ made is def built defines. tt)
-    (λ brought is plan brings room. planned_known (planned (tables_of history.schema) brought) plan (All (IsKnown history)) (planned-within (tables_of history.schema) brought) brings)
+    task_holds (catalog_of history.schema) (entries_in history) (TaskKnown history) (λ select query asks. tt) (λ table def. tt) asked (λ made is def built defines. tt)
+    (λ brought is plan brings room. planned_known (planned (catalog_of history.schema) brought) plan (All (IsKnown history)) (planned-within (catalog_of history.schema) brought) brings)
 
 -- while requests are answered the history holds what is acknowledged
 pub holding_run : (requests : List Request) (m : Moment) → Holding m → While Held [] (run_events requests m) m
 holding_run requests m held =
     while_run Held (λ (request : Request). Unit {0})
     (λ request done n asks holds.
-    holding_answer request.client (task_of (tables_of n.history.schema) (entries_in n.history) request.statement) done n (known_task request.statement n.history) holds)
+    holding_answer request.client (task_of (catalog_of n.history.schema) (entries_in n.history) request.statement) done n (known_task request.statement n.history) holds)
     requests [] m (λ k d within. tt) held
 
 -- at the moment behind the events that are done

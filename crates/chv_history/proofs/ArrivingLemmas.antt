@@ -6,7 +6,7 @@ use Rattle.std.proofs.lemmas.List.Elements.{Contains-append_right}
 use Rattle.chv_part.specs.Arriving.{is_among_last, fresh}
 use Rattle.chv_part.specs.Books.{Book, Entry, is_recent}
 use Rattle.chv_part.proofs.BookLemmas.{is_recent-Decides}
-use Rattle.chv_plan.specs.Arrivals.{Arrival, entry_in}
+use Rattle.chv_query.specs.Arrivals.{Arrival, entry_in}
 use Rattle.chv_sip.specs.BlockIds.{last_ids}
 use Rattle.chv_sip.specs.declared.block_id.BlockId.{BlockId}
 use Rattle.chv_history.specs.Histories.{ids_in, put_at}

@@ -1,9 +1,9 @@
 -- What a commit does to a history.
 use Rattle.std.proofs.Common.{◌≡◌, ◌≢◌, ℕ, Bool, true, false, if◌then◌else◌, List, [], ◌∷◌, ◌++◌, refl, sym, ap}
 use Rattle.std.proofs.lemmas.List.{append-nil}
-use Rattle.chv_define.specs.Accepted.{tables_of}
+use Rattle.chv_query.specs.Accepted.{tables_of}
 use Rattle.chv_part.specs.Arriving.{is_among_last}
-use Rattle.chv_plan.specs.Arrivals.{Arrival}
+use Rattle.chv_query.specs.Arrivals.{Arrival}
 use Rattle.chv_history.specs.Events.{with_arrivals, with_commit, written_in}
 use Rattle.chv_history.specs.Histories.{History, ids_in, window_at}
 use Rattle.chv_history.proofs.ArrivingLemmas.{put_at-same, put_at-other}

@@ -3,10 +3,10 @@ use Rattle.std.proofs.Common.{◌≡◌, ◌≢◌, inl, inr, ℕ, ◌+◌, suc,
 use Rattle.std.proofs.lemmas.Bool.{cases_eq}
 use Rattle.std.proofs.lemmas.List.{append-nil, length-append, length-map, map-append}
 use Rattle.chv_commit.specs.Replays.{Span}
-use Rattle.chv_define.specs.Accepted.{Accepted, tables_of}
+use Rattle.chv_query.specs.Accepted.{Accepted, tables_of}
 use Rattle.chv_part.specs.Arriving.{fresh, with_part}
 use Rattle.chv_part.specs.Books.{TableForm, Book, Entry, IsEntry, no_book, ids_of, arrived, committed}
-use Rattle.chv_plan.specs.Arrivals.{Arrival, IsArrival, entry_in}
+use Rattle.chv_query.specs.Arrivals.{Arrival, IsArrival, entry_in}
 use Rattle.chv_part.proofs.BookLemmas.{committed-arrived}
 use Rattle.chv_part.proofs.BookRowLemmas.{IsEntry-entry_of}
 use Rattle.chv_sip.specs.declared.block_id.BlockId.{BlockId}

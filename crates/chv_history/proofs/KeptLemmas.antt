@@ -9,13 +9,15 @@ use Rattle.chv_ast.specs.declared.refusal.Refusal.{Refusal}
 use Rattle.chv_ast.specs.declared.refusal.Refusal.TheVariants.{LimitPassed, NotBuilt}
 use Rattle.chv_ast.specs.declared.statement.Statement.{Statement}
 use Rattle.chv_ast.specs.declared.statement.Statement.TheVariants as statement
+use Rattle.chv_catalog.proofs.SchemaLemmas.{same_tables}
+use Rattle.chv_catalog.specs.Schemas.{Catalog, no_definitions}
 use Rattle.chv_catalog.specs.declared.table_def.TableDef.{TableDef}
 use Rattle.chv_commit.specs.Replays.{MAX_ENTRIES, State, added, no_state}
-use Rattle.chv_define.specs.Accepted.{Accepted, tables_in, tables_of}
-use Rattle.chv_define.proofs.AcceptedLemmas.{tables_of-push}
+use Rattle.chv_query.specs.Accepted.{Accepted, catalog_of, tables_in, tables_of, with_definition}
+use Rattle.chv_query.proofs.AcceptedLemmas.{catalog_of-push}
 use Rattle.chv_part.specs.Forms.{form_of}
-use Rattle.chv_plan.specs.Arrivals.{Arrival}
-use Rattle.chv_plan.specs.Plans.{Delivery, planned}
+use Rattle.chv_query.specs.Arrivals.{Arrival}
+use Rattle.chv_query.specs.Plans.{Delivery, planned}
 use Rattle.chv_query.specs.Queries.{Asked, divides, made_of}
 use Rattle.chv_types.specs.Steps.{and_then, refuse_if}
 use Rattle.chv_types.specs.declared.value.Value.{Value}
@@ -24,7 +26,7 @@ use Rattle.chv_sip.specs.declared.block_id.BlockId.{BlockId}
 use Rattle.chv_sip.proofs.LastIds.{last_ids-last_ids}
 use Rattle.chv_history.specs.Built.{is_built}
 use Rattle.chv_history.specs.Events.{Event, Plan, Moment, begins, behind, happen, with_commit}
-use Rattle.chv_history.specs.Histories.{History, book_of, ids_in, put_at, window_at, window_in, with_accepted}
+use Rattle.chv_history.specs.Histories.{History, book_of, ids_in, no_history, put_at, window_at, window_in, with_accepted}
 use Rattle.chv_history.specs.Kept.{Kept, IsKeptOf, IsRefused, MayDivide, Refuses, entries_kept, kept_answer, kept_behind, kept_delivery, kept_plan, kept_task, noted}
 use Rattle.chv_history.specs.Runs.{answer_events, delivered, delivery_event, entries_in, request_events, run_events}
 use Rattle.chv_history.specs.Script.{Request}
@@ -42,12 +44,16 @@ pub record Tells (window : ℕ) (state : State) (arrivals : List Arrival) : Type
   pub entries : state.entries ≡ length arrivals
   pub ids : state.ids ≡ last_ids window (ids_in arrivals)
 
-pub kept_at : (kept : Kept) (history : History) (place : ℕ) (def : TableDef) → IsKeptOf kept history → slice_get kept.tables place ≡ Some def → Tells def.window (kept.states (place + 1)) (history.arrivals (place + 1))
+pub kept_at : (kept : Kept) (history : History) (place : ℕ) (def : TableDef) → IsKeptOf kept history → slice_get kept.catalog.tables place ≡ Some def → Tells def.window (kept.states (place + 1)) (history.arrivals (place + 1))
 kept_at kept history place def is stands = record { entries = is.entries place def stands; ids = is.ids place def stands }
 
-pub kept_by : (kept : Kept) (history : History) → kept.tables ≡ tables_of history.schema
-    → ((place : ℕ) (def : TableDef) → slice_get kept.tables place ≡ Some def → Tells def.window (kept.states (place + 1)) (history.arrivals (place + 1))) → IsKeptOf kept history
-kept_by kept history tables each = record { tables = tables; entries = λ place def stands. (each place def stands).entries; ids = λ place def stands. (each place def stands).ids }
+pub kept_by : (kept : Kept) (history : History) → kept.catalog ≡ catalog_of history.schema
+    → ((place : ℕ) (def : TableDef) → slice_get kept.catalog.tables place ≡ Some def → Tells def.window (kept.states (place + 1)) (history.arrivals (place + 1))) → IsKeptOf kept history
+kept_by kept history catalog each = record { catalog = catalog; entries = λ place def stands. (each place def stands).entries; ids = λ place def stands. (each place def stands).ids }
+
+-- its tables are those of the history
+pub kept_tables : (kept : Kept) (history : History) → IsKeptOf kept history → kept.catalog.tables ≡ tables_of history.schema
+kept_tables kept history is = same_tables kept.catalog (catalog_of history.schema) is.catalog
 
 -- nothing has arrived
 tells_none : (window : ℕ) → Tells window no_state []
@@ -84,13 +90,13 @@ arrived_one table arrival history =
 
 module _ (delivery : Delivery) (kept : Kept) (history : History) (is : IsKeptOf kept history) where
   abbrev note : State
-  note = noted (window_at kept.tables delivery.table) delivery.entry (kept.states delivery.table)
+  note = noted (window_at kept.catalog.tables delivery.table) delivery.entry (kept.states delivery.table)
 
-  tells_here : (place : ℕ) (def : TableDef) → place + 1 ≡ delivery.table → slice_get kept.tables place ≡ Some def → Tells def.window note ((delivered delivery history).arrivals delivery.table)
+  tells_here : (place : ℕ) (def : TableDef) → place + 1 ≡ delivery.table → slice_get kept.catalog.tables place ≡ Some def → Tells def.window note ((delivered delivery history).arrivals delivery.table)
   tells_here place def same stands =
       let at : place + 1 - 1 ≡ place = omega arith in
-      let window : window_at kept.tables delivery.table ≡ def.window = subst (λ (n : ℕ). window_at kept.tables n ≡ def.window) same (ap (λ (p : ℕ). window_in (slice_get kept.tables p)) at ∙ ap window_in stands) in
-      let there : window_at (tables_of history.schema) delivery.table ≡ def.window = ap (λ (tables : List TableDef). window_at tables delivery.table) (sym is.tables) ∙ window in
+      let window : window_at kept.catalog.tables delivery.table ≡ def.window = subst (λ (n : ℕ). window_at kept.catalog.tables n ≡ def.window) same (ap (λ (p : ℕ). window_in (slice_get kept.catalog.tables p)) at ∙ ap window_in stands) in
+      let there : window_at (tables_of history.schema) delivery.table ≡ def.window = ap (λ (tables : List TableDef). window_at tables delivery.table) (sym (kept_tables kept history is)) ∙ window in
       let old : Tells def.window (kept.states delivery.table) (history.arrivals delivery.table) = subst (λ (n : ℕ). Tells def.window (kept.states n) (history.arrivals n)) same (kept_at kept history place def is stands) in
       let skipped : list_any (id_eq delivery.entry.id) (last_ids def.window (ids_in (history.arrivals delivery.table))) ≡ is_skipped delivery.table delivery.entry history =
       ap (λ (w : ℕ). list_any (id_eq delivery.entry.id) (last_ids w (ids_in (history.arrivals delivery.table)))) (sym there) in
@@ -98,7 +104,7 @@ module _ (delivery : Delivery) (kept : Kept) (history : History) (is : IsKeptOf 
       (subst (Tells def.window (noted def.window delivery.entry (kept.states delivery.table))) (sym (arrived_one delivery.table delivery.entry history))
       (tells_noted def.window delivery.entry (kept.states delivery.table) (history.arrivals delivery.table) (is_skipped delivery.table delivery.entry history) skipped old))
 
-  tells_each : (place : ℕ) (def : TableDef) → slice_get kept.tables place ≡ Some def → Tells def.window (put_at delivery.table note kept.states (place + 1)) ((delivered delivery history).arrivals (place + 1))
+  tells_each : (place : ℕ) (def : TableDef) → slice_get kept.catalog.tables place ≡ Some def → Tells def.window (put_at delivery.table note kept.states (place + 1)) ((delivered delivery history).arrivals (place + 1))
   tells_each place def stands = elim (cases_eq (place + 1) delivery.table) as (λ _. Tells def.window (put_at delivery.table note kept.states (place + 1)) ((delivered delivery history).arrivals (place + 1))) [
     | inl same ↦
         subst (λ (n : ℕ). Tells def.window (put_at delivery.table note kept.states n) ((delivered delivery history).arrivals n)) (sym same)
@@ -110,7 +116,7 @@ module _ (delivery : Delivery) (kept : Kept) (history : History) (is : IsKeptOf 
 
   -- a delivery is made
   pub kept_delivered : IsKeptOf (kept_delivery delivery kept) (delivered delivery history)
-  kept_delivered = kept_by (kept_delivery delivery kept) (delivered delivery history) (is.tables ∙ ap tables_of (sym (schema-with_commit delivery.table (delivery.entry ∷ []) history))) tells_each
+  kept_delivered = kept_by (kept_delivery delivery kept) (delivered delivery history) (is.catalog ∙ ap catalog_of (sym (schema-with_commit delivery.table (delivery.entry ∷ []) history))) tells_each
 
 -- deliveries are made one after the other
 pub kept_planned : (plan : Plan) (kept : Kept) (m : Moment) → IsKeptOf kept m.history → IsKeptOf (kept_plan plan kept) (behind (map delivery_event plan) m).history
@@ -120,15 +126,15 @@ kept_planned (delivery ∷ plan) kept m is = kept_planned plan (kept_delivery de
 -- a table is made
 module _ (accepted : Accepted) (kept : Kept) (history : History) (is : IsKeptOf kept history) where
   abbrev number : ℕ
-  number = length kept.tables + 1
+  number = length kept.catalog.tables + 1
 
   same_number : length (tables_of history.schema) + 1 ≡ number
-  same_number = ap (λ (tables : List TableDef). length tables + 1) (sym is.tables)
+  same_number = ap (λ (tables : List TableDef). length tables + 1) (sym (kept_tables kept history is))
 
-  tells_made : (place : ℕ) (def : TableDef) → slice_get (kept.tables ++ tables_in accepted.definition) place ≡ Some def
+  tells_made : (place : ℕ) (def : TableDef) → slice_get (kept.catalog.tables ++ tables_in accepted.definition) place ≡ Some def
       → Tells def.window (put_at number no_state kept.states (place + 1)) (put_at number [] history.arrivals (place + 1))
   tells_made place def stands =
-      elim (table_cases kept.tables accepted.definition place def stands) as (λ _. Tells def.window (put_at number no_state kept.states (place + 1)) (put_at number [] history.arrivals (place + 1))) [
+      elim (table_cases kept.catalog.tables accepted.definition place def stands) as (λ _. Tells def.window (put_at number no_state kept.states (place + 1)) (put_at number [] history.arrivals (place + 1))) [
         | inl old ↦
             let other : place + 1 ≢ number = λ same. absurd (omega (arith, same, old.0)) in
             subst (λ (s : State). Tells def.window s (put_at number [] history.arrivals (place + 1))) (sym (put_at-other number (place + 1) no_state kept.states other))
@@ -142,7 +148,7 @@ module _ (accepted : Accepted) (kept : Kept) (history : History) (is : IsKeptOf 
   pub kept_made : IsKeptOf (kept_task (Ok (Make accepted)) kept) (with_accepted accepted history)
   kept_made =
       kept_by (kept_task (Ok (Make accepted)) kept) (with_accepted accepted history)
-      (ap (λ (tables : List TableDef). tables ++ tables_in accepted.definition) is.tables ∙ sym (tables_of-push history.schema accepted))
+      (ap (λ (catalog : Catalog). with_definition catalog accepted.definition) is.catalog ∙ sym (catalog_of-push history.schema accepted))
       (λ place def stands. subst (λ (n : ℕ). Tells def.window (put_at number no_state kept.states (place + 1)) (put_at n [] history.arrivals (place + 1))) (sym same_number) (tells_made place def stands))
 
 -- a task is done, or refused
@@ -202,32 +208,32 @@ bring_agrees : (tables : List TableDef) (one two : ℕ → ℕ) (plans : Result 
 bring_agrees tables one two (Ok plan) agree known = ap (λ (b : Bool). refuse_if (not b) LimitPassed (Ok (Bring plan))) (room_agrees tables one two plan plan agree known)
 bring_agrees tables one two (Err refuses) agree known = refl
 
-built_agrees : (tables : List TableDef) (one two : ℕ → ℕ) (asked : Statement) → Agree tables one two → built_task tables one asked ≡ built_task tables two asked
-built_agrees tables one two (statement.CreateTable made) agree = refl
-built_agrees tables one two (statement.Insert brought) agree = bring_agrees tables one two (planned tables brought) agree (planned-within tables brought)
-built_agrees tables one two (statement.Query select) agree = refl
-built_agrees tables one two (statement.ShowParts asked) agree = refl
-built_agrees tables one two (statement.CreateView asked) agree = refl
-built_agrees tables one two (statement.Optimize asked) agree = refl
-built_agrees tables one two statement.FlushQueue agree = refl
+built_agrees : (catalog : Catalog) (one two : ℕ → ℕ) (asked : Statement) → Agree catalog.tables one two → built_task catalog one asked ≡ built_task catalog two asked
+built_agrees catalog one two (statement.CreateTable made) agree = refl
+built_agrees catalog one two (statement.Insert brought) agree = bring_agrees catalog.tables one two (planned catalog brought) agree (planned-within catalog brought)
+built_agrees catalog one two (statement.Query select) agree = refl
+built_agrees catalog one two (statement.ShowParts asked) agree = refl
+built_agrees catalog one two (statement.CreateView asked) agree = refl
+built_agrees catalog one two (statement.Optimize asked) agree = refl
+built_agrees catalog one two statement.FlushQueue agree = refl
 
 -- so the task of a statement is the same
-pub task_agrees : (tables : List TableDef) (one two : ℕ → ℕ) (asked : Option Statement) → Agree tables one two → task_of tables one asked ≡ task_of tables two asked
-task_agrees tables one two None agree = refl
-task_agrees tables one two (Some asked) agree = ap (refuse_if (not (is_built asked)) NotBuilt) (built_agrees tables one two asked agree)
+pub task_agrees : (catalog : Catalog) (one two : ℕ → ℕ) (asked : Option Statement) → Agree catalog.tables one two → task_of catalog one asked ≡ task_of catalog two asked
+task_agrees catalog one two None agree = refl
+task_agrees catalog one two (Some asked) agree = ap (refuse_if (not (is_built asked)) NotBuilt) (built_agrees catalog one two asked agree)
 
 -- what is held agrees with its history
-pub kept_agrees : (kept : Kept) (history : History) → IsKeptOf kept history → Agree kept.tables (entries_kept kept) (entries_in history)
+pub kept_agrees : (kept : Kept) (history : History) → IsKeptOf kept history → Agree kept.catalog.tables (entries_kept kept) (entries_in history)
 kept_agrees kept history is table first last =
     let place : table - 1 + 1 ≡ table = omega (arith, first) in
-    let at = table_at kept.tables (table - 1) (omega (arith, first, last)) in
+    let at = table_at kept.catalog.tables (table - 1) (omega (arith, first, last)) in
     subst (λ (n : ℕ). entries_kept kept n ≡ entries_in history n) place (is.entries (table - 1) at.0 at.1)
 
 -- so a request has the same task by what is held
-pub kept_request : (request : Request) (kept : Kept) (history : History) → IsKeptOf kept history → task_of (tables_of history.schema) (entries_in history) request.statement ≡ kept_answer request kept
+pub kept_request : (request : Request) (kept : Kept) (history : History) → IsKeptOf kept history → task_of (catalog_of history.schema) (entries_in history) request.statement ≡ kept_answer request kept
 kept_request request kept history is =
-    ap (λ (tables : List TableDef). task_of tables (entries_in history) request.statement) (sym is.tables)
-    ∙ sym (task_agrees kept.tables (entries_kept kept) (entries_in history) request.statement (kept_agrees kept history is))
+    ap (λ (catalog : Catalog). task_of catalog (entries_in history) request.statement) (sym is.catalog)
+    ∙ sym (task_agrees kept.catalog (entries_kept kept) (entries_in history) request.statement (kept_agrees kept history is))
 
 -- a moment behind requests is marked where one was refused before, or one of them is
 pub record MarksAll (requests : List Request) (kept : Kept) (before after : Bool) : Type 0 where
@@ -271,5 +277,5 @@ kept_begun requests kept history is =
     (all.0, subst (Refuses requests kept) (sym all.1.marks) all.1.refuses)
 
 -- of a new store nothing is held
-pub kept_none : IsKeptOf (record { tables = []; states = λ _. no_state }) (record { schema = []; arrivals = λ _. []; layouts = λ _. [] })
-kept_none = record { tables = refl; entries = λ place def stands. absurd (cc stands); ids = λ place def stands. absurd (cc stands) }
+pub kept_none : IsKeptOf (record { catalog = no_definitions; states = λ _. no_state }) no_history
+kept_none = record { catalog = refl; entries = λ place def stands. absurd (cc stands); ids = λ place def stands. absurd (cc stands) }

@@ -5,12 +5,12 @@ use Rattle.std.proofs.lemmas.List.{append-nil, length-map, map-append}
 use Rattle.std.proofs.lemmas.List.Elements.{All-nil, All-push}
 use Rattle.chv_catalog.specs.declared.table_def.TableDef.{TableDef}
 use Rattle.chv_commit.specs.Replays.{MAX_ENTRIES, Span}
-use Rattle.chv_define.specs.Accepted.{Accepted, Definition, IsAccepted, IsSchema, Table, is_built_create, tables_in, tables_of}
-use Rattle.chv_define.proofs.AcceptedLemmas.{AreAccepted-push, tables_of-push}
+use Rattle.chv_query.specs.Accepted.{Accepted, Definition, IsAccepted, IsSchema, Table, catalog_of, is_built_create, tables_in, tables_of}
+use Rattle.chv_query.proofs.AcceptedLemmas.{IsSchema-push, tables_of-push}
 use Rattle.chv_part.specs.Books.{TableForm, IsLawfulBook, no_book, arrived}
 use Rattle.chv_part.specs.Forms.{form_of}
 use Rattle.chv_part.proofs.BookLemmas.{IsLawfulBook-arrived, IsLawfulBook-no_book}
-use Rattle.chv_plan.specs.Arrivals.{Arrival, IsArrival, entry_in}
+use Rattle.chv_query.specs.Arrivals.{Arrival, IsArrival, entry_in}
 use Rattle.chv_history.specs.Events.{with_commit, written_in}
 use Rattle.chv_history.specs.Histories.{History, IsLawful, book_of, forms_of, put_at, window_at, window_in, with_accepted}
 use Rattle.chv_history.specs.Runs.{entries_in}
@@ -113,8 +113,8 @@ module _ (accepted : Accepted) (history : History) (lawful : IsLawful history) w
   ]
 
   -- a statement is accepted
-  pub lawful_accepted : is_built_create accepted.statement ≡ true → IsAccepted tables accepted → IsLawful (with_accepted accepted history)
-  lawful_accepted built is = record { schema = AreAccepted-push [] history.schema accepted lawful.schema built is; arrivals = still_arrivals; books = still_books }
+  pub lawful_accepted : is_built_create accepted.statement ≡ true → IsAccepted (catalog_of history.schema) accepted → IsLawful (with_accepted accepted history)
+  lawful_accepted built is = record { schema = IsSchema-push history.schema accepted lawful.schema built is; arrivals = still_arrivals; books = still_books }
 
 -- what arrives in the table of a number is of its form, and the table has room for it
 pub record MayArrive (history : History) (table : ℕ) (arrival : Arrival) : Type 0 where

@@ -10,22 +10,22 @@ use Rattle.chv_ast.specs.declared.statement.Select.{Select}
 use Rattle.chv_catalog.specs.Checks.{has_repeat, is_unknown, is_state, places_of}
 use Rattle.chv_query.specs.Queries.{Asked, asked, asked_of, filter_of, limit_of, outputs_of, sorts_of, columns_of as shown_columns}
 use Rattle.chv_query.specs.Tables.{table_of}
-use Rattle.chv_catalog.specs.Schemas.{names_of, columns_of, kinds_of}
+use Rattle.chv_catalog.specs.Schemas.{Catalog, columns_of, kinds_of, table_names}
 use Rattle.chv_catalog.specs.declared.table_def.TableDef.{TableDef}
-use Rattle.chv_catalog.proofs.SchemaLemmas.{place_of-within, length-names_of}
+use Rattle.chv_catalog.proofs.SchemaLemmas.{place_of-within, length-table_names}
 use Rattle.chv_part.specs.Books.{MAX_ROWS}
-use Rattle.chv_plan.specs.Plans.{Delivery, deliveries_of, filled_names, is_long, kinds_at, planned, planned_for, rows_for, sizes_for}
+use Rattle.chv_query.specs.Plans.{Delivery, deliveries_of, filled_names, is_long, kinds_at, planned, planned_for, rows_for, sizes_for}
 use Rattle.chv_types.specs.Names.{place_of}
 use Rattle.chv_types.specs.Steps.{refuse_if, and_then}
 use Rattle.chv_types.specs.declared.value.Value.{Value}
 
 -- the table of a name, by its number
-pub record IsNamed (tables : List TableDef) (name : List ℕ) (number : ℕ) : Type 0 where
+pub record IsNamed (catalog : Catalog) (name : List ℕ) (number : ℕ) : Type 0 where
   pub def : TableDef
-  pub stands : slice_get tables (number - 1) ≡ Some def
-  pub is : table_of tables name ≡ Ok (number, def)
+  pub stands : slice_get catalog.tables (number - 1) ≡ Some def
+  pub is : table_of catalog name ≡ Ok (number, def)
   pub first : 1 ≤ number
-  pub last : number ≤ length tables
+  pub last : number ≤ length catalog.tables
 
 -- a table stands at each place within
 pub table_at : (tables : List TableDef) (place : ℕ) → place < length tables → (def : TableDef) × (slice_get tables place ≡ Some def)
@@ -33,37 +33,37 @@ table_at [] place below = absurd (omega (arith, below))
 table_at (def ∷ defs) zero below = (def, refl)
 table_at (def ∷ defs) (suc place) below = table_at defs place (omega arith)
 
-found_at : (tables : List TableDef) (name : List ℕ) (place : ℕ) (def : TableDef) → place_of name (names_of tables) ≡ Some place → slice_get tables place ≡ Some def → table_of tables name ≡ Ok (place + 1, def)
-found_at tables name place def found stands = rw (found, stands) refl
+found_at : (catalog : Catalog) (name : List ℕ) (place : ℕ) (def : TableDef) → place_of name (table_names catalog.tables) ≡ Some place → slice_get catalog.tables place ≡ Some def → table_of catalog name ≡ Ok (place + 1, def)
+found_at catalog name place def found stands = rw (found, stands) refl
 
-named_at : (tables : List TableDef) (name : List ℕ) (place : ℕ) → place_of name (names_of tables) ≡ Some place → IsNamed tables name (place + 1)
-named_at tables name place found =
-    let below : place < length tables = omega (arith, place_of-within name (names_of tables) place found, length-names_of tables) in
-    let at = table_at tables place below in
+named_at : (catalog : Catalog) (name : List ℕ) (place : ℕ) → place_of name (table_names catalog.tables) ≡ Some place → IsNamed catalog name (place + 1)
+named_at catalog name place found =
+    let below : place < length catalog.tables = omega (arith, place_of-within name (table_names catalog.tables) place found, length-table_names catalog.tables) in
+    let at = table_at catalog.tables place below in
     let same : place + 1 - 1 ≡ place = omega arith in
     record {
       def = at.0;
       stands = rw same at.1;
-      is = found_at tables name place at.0 found at.1;
+      is = found_at catalog name place at.0 found at.1;
       first = omega arith;
       last = omega (arith, below);
     }
 
-named_by : (tables : List TableDef) (name : List ℕ) (number : ℕ) (place : Option ℕ) → place_of name (names_of tables) ≡ place → option_map (λ p. p + 1) place ≡ Some number → IsNamed tables name number
-named_by tables name number None found is = absurd (cc is)
-named_by tables name number (Some place) found is = let same : place + 1 ≡ number = cc in subst (IsNamed tables name) same (named_at tables name place found)
+named_by : (catalog : Catalog) (name : List ℕ) (number : ℕ) (place : Option ℕ) → place_of name (table_names catalog.tables) ≡ place → option_map (λ p. p + 1) place ≡ Some number → IsNamed catalog name number
+named_by catalog name number None found is = absurd (cc is)
+named_by catalog name number (Some place) found is = let same : place + 1 ≡ number = cc in subst (IsNamed catalog name) same (named_at catalog name place found)
 
 -- a name that is found is that of a table
-pub table_of-known : (tables : List TableDef) (name : List ℕ) (number : ℕ) → option_map (λ place. place + 1) (place_of name (names_of tables)) ≡ Some number → IsNamed tables name number
-table_of-known tables name number is = named_by tables name number (place_of name (names_of tables)) refl is
+pub table_of-known : (catalog : Catalog) (name : List ℕ) (number : ℕ) → option_map (λ place. place + 1) (place_of name (table_names catalog.tables)) ≡ Some number → IsNamed catalog name number
+table_of-known catalog name number is = named_by catalog name number (place_of name (table_names catalog.tables)) refl is
 
-unnamed_by : (tables : List TableDef) (name : List ℕ) (place : Option ℕ) → place_of name (names_of tables) ≡ place → option_map (λ p. p + 1) place ≡ None → table_of tables name ≡ Err UnknownTable
-unnamed_by tables name None found is = rw found refl
-unnamed_by tables name (Some place) found is = absurd (cc is)
+unnamed_by : (catalog : Catalog) (name : List ℕ) (place : Option ℕ) → place_of name (table_names catalog.tables) ≡ place → option_map (λ p. p + 1) place ≡ None → table_of catalog name ≡ Err UnknownTable
+unnamed_by catalog name None found is = rw found refl
+unnamed_by catalog name (Some place) found is = absurd (cc is)
 
 -- and one that is not, is of none
-pub table_of-none : (tables : List TableDef) (name : List ℕ) → option_map (λ place. place + 1) (place_of name (names_of tables)) ≡ None → table_of tables name ≡ Err UnknownTable
-table_of-none tables name is = unnamed_by tables name (place_of name (names_of tables)) refl is
+pub table_of-none : (catalog : Catalog) (name : List ℕ) → option_map (λ place. place + 1) (place_of name (table_names catalog.tables)) ≡ None → table_of catalog name ≡ Err UnknownTable
+table_of-none catalog name is = unnamed_by catalog name (place_of name (table_names catalog.tables)) refl is
 
 -- what holds of each step holds of the whole
 if_ok-and_then : {A B : Type 0} (r : Result A Refusal) (rest : A → Result B Refusal) (P : A → Type 0) (Q : B → Type 0) → IfOk r P → ((a : A) → P a → IfOk (rest a) Q) → IfOk (and_then r rest) Q
@@ -99,23 +99,23 @@ planned_for-table table def brought =
     (λ sizes written. deliveries_of-table table def settings.token 0 _)
 
 -- the number of a table that is found is one of the tables
-table_of-within : (tables : List TableDef) (name : List ℕ) → IfOk (table_of tables name) (λ found. (1 ≤ found.0) × (found.0 ≤ length tables))
-table_of-within tables name = by (place_of name (names_of tables)) refl
+table_of-within : (catalog : Catalog) (name : List ℕ) → IfOk (table_of catalog name) (λ found. (1 ≤ found.0) × (found.0 ≤ length catalog.tables))
+table_of-within catalog name = by (place_of name (table_names catalog.tables)) refl
   where
-    by : (place : Option ℕ) → place_of name (names_of tables) ≡ place → IfOk (table_of tables name) (λ found. (1 ≤ found.0) × (found.0 ≤ length tables))
+    by : (place : Option ℕ) → place_of name (table_names catalog.tables) ≡ place → IfOk (table_of catalog name) (λ found. (1 ≤ found.0) × (found.0 ≤ length catalog.tables))
     by None found = rw found tt
-    by (Some place) found = let named = named_at tables name place found in rw named.is (named.first, named.last)
+    by (Some place) found = let named = named_at catalog name place found in rw named.is (named.first, named.last)
 
 -- each delivery that is planned has a table
-pub planned-within : (tables : List TableDef) (brought : Insert) → IfOk (planned tables brought) (λ plan. All (λ (d : Delivery). (1 ≤ d.table) × (d.table ≤ length tables)) plan)
+pub planned-within : (catalog : Catalog) (brought : Insert) → IfOk (planned catalog brought) (λ plan. All (λ (d : Delivery). (1 ≤ d.table) × (d.table ≤ length catalog.tables)) plan)
 unfolding planned
-planned-within tables brought =
-    if_ok-and_then (table_of tables brought.table) _ (λ found. (1 ≤ found.0) × (found.0 ≤ length tables)) (λ (plan : List Delivery). All (λ (d : Delivery). (1 ≤ d.table) × (d.table ≤ length tables)) plan) (table_of-within tables brought.table)
+planned-within catalog brought =
+    if_ok-and_then (table_of catalog brought.table) _ (λ found. (1 ≤ found.0) × (found.0 ≤ length catalog.tables)) (λ (plan : List Delivery). All (λ (d : Delivery). (1 ≤ d.table) × (d.table ≤ length catalog.tables)) plan) (table_of-within catalog brought.table)
     (λ found known. weaker (planned_for found.0 found.1 brought) found.0 known (planned_for-table found.0 found.1 brought))
   where
-    weaker : (r : Result (List Delivery) Refusal) (number : ℕ) → (1 ≤ number) × (number ≤ length tables) → IfOk r (λ plan. All (λ (d : Delivery). d.table ≡ number) plan)
-        → IfOk r (λ plan. All (λ (d : Delivery). (1 ≤ d.table) × (d.table ≤ length tables)) plan)
-    weaker (Ok plan) number known same = All-weaker (λ (d : Delivery). d.table ≡ number) (λ (d : Delivery). (1 ≤ d.table) × (d.table ≤ length tables)) (λ d is. (omega (arith, known.0, is), omega (arith, known.1, is))) plan same
+    weaker : (r : Result (List Delivery) Refusal) (number : ℕ) → (1 ≤ number) × (number ≤ length catalog.tables) → IfOk r (λ plan. All (λ (d : Delivery). d.table ≡ number) plan)
+        → IfOk r (λ plan. All (λ (d : Delivery). (1 ≤ d.table) × (d.table ≤ length catalog.tables)) plan)
+    weaker (Ok plan) number known same = All-weaker (λ (d : Delivery). d.table ≡ number) (λ (d : Delivery). (1 ≤ d.table) × (d.table ≤ length catalog.tables)) (λ d is. (omega (arith, known.0, is), omega (arith, known.1, is))) plan same
     weaker (Err refusal) number known same = tt
 
 -- one table is found
@@ -123,22 +123,22 @@ pub one_found : (p q : ℕ × TableDef) → ◌≡◌ {A = Result (ℕ × TableD
 one_found p q same = cc
 
 -- what is found of a name: the number and the definition of a table that stands
-pub record IsFound (tables : List TableDef) (name : List ℕ) (found : ℕ × TableDef) : Type 0 where
+pub record IsFound (catalog : Catalog) (name : List ℕ) (found : ℕ × TableDef) : Type 0 where
   pub first : 1 ≤ found.0
-  pub last : found.0 ≤ length tables
-  pub stands : slice_get tables (found.0 - 1) ≡ Some found.1
-  pub is : table_of tables name ≡ Ok found
+  pub last : found.0 ≤ length catalog.tables
+  pub stands : slice_get catalog.tables (found.0 - 1) ≡ Some found.1
+  pub is : table_of catalog name ≡ Ok found
 
-found_by : (tables : List TableDef) (name : List ℕ) (found : ℕ × TableDef) (place : Option ℕ) → place_of name (names_of tables) ≡ place → table_of tables name ≡ Ok found → IsFound tables name found
-found_by tables name found None at is = let none = unnamed_by tables name None at refl in absurd (cc (none, is))
-found_by tables name found (Some place) at is =
-    let named = named_at tables name place at in
-    subst (IsFound tables name) (one_found (place + 1, named.def) found (sym named.is ∙ is))
+found_by : (catalog : Catalog) (name : List ℕ) (found : ℕ × TableDef) (place : Option ℕ) → place_of name (table_names catalog.tables) ≡ place → table_of catalog name ≡ Ok found → IsFound catalog name found
+found_by catalog name found None at is = let none = unnamed_by catalog name None at refl in absurd (cc (none, is))
+found_by catalog name found (Some place) at is =
+    let named = named_at catalog name place at in
+    subst (IsFound catalog name) (one_found (place + 1, named.def) found (sym named.is ∙ is))
     (record { first = named.first; last = named.last; stands = named.stands; is = named.is })
 
 -- a table that is found stands
-pub table_of-found : (tables : List TableDef) (name : List ℕ) (found : ℕ × TableDef) → table_of tables name ≡ Ok found → IsFound tables name found
-table_of-found tables name found is = found_by tables name found (place_of name (names_of tables)) refl is
+pub table_of-found : (catalog : Catalog) (name : List ℕ) (found : ℕ × TableDef) → table_of catalog name ≡ Ok found → IsFound catalog name found
+table_of-found catalog name found is = found_by catalog name found (place_of name (table_names catalog.tables)) refl is
 
 -- whatever a step gives, what holds of the rest holds of the whole
 if_ok-rest : {A B : Type 0} (r : Result A Refusal) (rest : A → Result B Refusal) (Q : B → Type 0) → ((a : A) → IfOk (rest a) Q) → IfOk (and_then r rest) Q
@@ -156,15 +156,15 @@ asked_of-table table def select =
     (λ outputs. if_ok-rest (sorts_of (shown_columns outputs) select.order) _ (IsOf table def)
     (λ order. if_ok-rest (limit_of select.limit) _ (IsOf table def) (λ limit. (refl, refl)))))
 
-asked_by : (tables : List TableDef) (select : Select) (query : Asked) (found : Result (ℕ × TableDef) Refusal) → table_of tables select.table ≡ found
-    → and_then found (λ f. asked_of f.0 f.1 select) ≡ Ok query → IsFound tables select.table (query.table, query.def)
-asked_by tables select query (Ok found) is asks =
+asked_by : (catalog : Catalog) (select : Select) (query : Asked) (found : Result (ℕ × TableDef) Refusal) → table_of catalog select.table ≡ found
+    → and_then found (λ f. asked_of f.0 f.1 select) ≡ Ok query → IsFound catalog select.table (query.table, query.def)
+asked_by catalog select query (Ok found) is asks =
     let same : IsOf found.0 found.1 query = subst (λ (r : Result Asked Refusal). IfOk r (IsOf found.0 found.1)) asks (asked_of-table found.0 found.1 select) in
     let pair : ◌≡◌ {A = ℕ × TableDef} found (query.table, query.def) = ap₂ (λ (table : ℕ) (def : TableDef). (table, def)) (sym same.0) (sym same.1) in
-    subst (IsFound tables select.table) pair (table_of-found tables select.table found is)
-asked_by tables select query (Err refusal) is asks = absurd (cc asks)
+    subst (IsFound catalog select.table) pair (table_of-found catalog select.table found is)
+asked_by catalog select query (Err refusal) is asks = absurd (cc asks)
 
 -- the table of a query is the one that its name finds, and stands
-pub asked_stands : (tables : List TableDef) (select : Select) (query : Asked) → asked tables select ≡ Ok query → IsFound tables select.table (query.table, query.def)
+pub asked_stands : (catalog : Catalog) (select : Select) (query : Asked) → asked catalog select ≡ Ok query → IsFound catalog select.table (query.table, query.def)
 unfolding asked
-asked_stands tables select query asks = asked_by tables select query (table_of tables select.table) refl asks
+asked_stands catalog select query asks = asked_by catalog select query (table_of catalog select.table) refl asks

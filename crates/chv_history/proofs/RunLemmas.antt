@@ -6,14 +6,14 @@ use Rattle.std.proofs.lemmas.List.Elements.{All-cons, All-head, All-nil, All-tai
 use Rattle.chv_ast.specs.declared.refusal.Refusal.{Refusal}
 use Rattle.chv_ast.specs.declared.statement.Insert.{Insert}
 use Rattle.chv_ast.specs.declared.statement.Statement.TheVariants as statement
-use Rattle.chv_catalog.specs.Schemas.{kinds_of}
+use Rattle.chv_catalog.specs.Schemas.{kinds_of, no_definitions}
 use Rattle.chv_catalog.specs.declared.table_def.TableDef.{TableDef}
 use Rattle.chv_commit.specs.Replays.{MAX_ENTRIES}
-use Rattle.chv_define.specs.Accepted.{Accepted, IsAccepted, is_built_create, tables_of}
-use Rattle.chv_define.proofs.AcceptedLemmas.{IsMade, all_made}
+use Rattle.chv_query.specs.Accepted.{Accepted, IsAccepted, catalog_of, is_built_create, tables_of}
+use Rattle.chv_query.proofs.AcceptedLemmas.{IsMade, all_made}
 use Rattle.chv_part.specs.Forms.{form_of}
-use Rattle.chv_plan.specs.Plans.{Delivery, planned}
-use Rattle.chv_plan.proofs.ArrivalLemmas.{ArrivesIn, planned-arrives}
+use Rattle.chv_query.specs.Plans.{Delivery, planned}
+use Rattle.chv_query.proofs.ArrivalLemmas.{ArrivesIn, planned-arrives}
 use Rattle.chv_types.specs.Values.{IsPlain}
 use Rattle.chv_history.specs.Events.{Event, Plan, Moment, behind, happen}
 use Rattle.chv_history.specs.Histories.{History, IsLawful}
@@ -113,23 +113,23 @@ all_fit plan history room =
 -- the tables of a lawful history have plain kinds
 pub plain_tables : (history : History) → IsLawful history → All (λ (def : TableDef). All IsPlain (kinds_of def)) (tables_of history.schema)
 plain_tables history lawful =
-    All-weaker IsMade (λ (def : TableDef). All IsPlain (kinds_of def)) (λ def made. made.plain) (tables_of history.schema) (all_made [] history.schema lawful.schema)
+    All-weaker IsMade (λ (def : TableDef). All IsPlain (kinds_of def)) (λ def made. made.plain) (tables_of history.schema) (all_made no_definitions history.schema lawful.schema)
 
 -- a plan is one that the history's tables may have
-pub may_bring : (asked : Insert) (plan : Plan) (history : History) → IsLawful history → planned (tables_of history.schema) asked ≡ Ok plan → has_room plan (entries_in history) ≡ true → MayBring history plan
+pub may_bring : (asked : Insert) (plan : Plan) (history : History) → IsLawful history → planned (catalog_of history.schema) asked ≡ Ok plan → has_room plan (entries_in history) ≡ true → MayBring history plan
 may_bring asked plan history lawful brings room =
-    record { arrive = planned-arrives (tables_of history.schema) asked plan (plain_tables history lawful) brings; fit = all_fit plan history room }
+    record { arrive = planned-arrives (catalog_of history.schema) asked plan (plain_tables history lawful) brings; fit = all_fit plan history room }
 
 -- a task that keeps a history lawful
 abbrev pub TaskSound : History → Task → Type 0
-TaskSound history (Make accepted) = (is_built_create accepted.statement ≡ true) × IsAccepted (tables_of history.schema) accepted
+TaskSound history (Make accepted) = (is_built_create accepted.statement ≡ true) × IsAccepted (catalog_of history.schema) accepted
 TaskSound history (Bring plan) = MayBring history plan
 TaskSound history (TellRows query) = Unit {0}
 TaskSound history (TellParts table def) = Unit {0}
 
-pub sound_task : (request : Request) (history : History) → IsLawful history → IsFormed request → IfOk (task_of (tables_of history.schema) (entries_in history) request.statement) (TaskSound history)
+pub sound_task : (request : Request) (history : History) → IsLawful history → IsFormed request → IfOk (task_of (catalog_of history.schema) (entries_in history) request.statement) (TaskSound history)
 sound_task request history lawful formed =
-    task_holds (tables_of history.schema) (entries_in history) (TaskSound history) (λ select query asks. tt) (λ table def. tt) request.statement
+    task_holds (catalog_of history.schema) (entries_in history) (TaskSound history) (λ select query asks. tt) (λ table def. tt) request.statement
     (λ made is def built defines. (built, record { formed = formed (statement.CreateTable made) is; defines = defines }))
     (λ brought is plan brings room. may_bring brought plan history lawful brings room)
 
@@ -151,7 +151,7 @@ lawful_answer client (Err refuses) done m sound lawful = (lawful, lawful)
 
 pub lawful_request : (request : Request) (done : List Event) (m : Moment) → IsFormed request → IsLawful m.history → While Lawful done (request_events request m.history) m
 lawful_request request done m formed lawful =
-    lawful_answer request.client (task_of (tables_of m.history.schema) (entries_in m.history) request.statement) done m (sound_task request m.history lawful formed) lawful
+    lawful_answer request.client (task_of (catalog_of m.history.schema) (entries_in m.history) request.statement) done m (sound_task request m.history lawful formed) lawful
 
 -- a history stays lawful as requests are answered
 pub lawful_behind : (requests : List Request) (m : Moment) (done left : List Event) → IsLawful m.history → AreFormed requests → run_events requests m ≡ done ++ left → IsLawful (behind done m).history

@@ -3,11 +3,11 @@ use Rattle.std.proofs.Common.{◌≡◌, inl, inr, ℕ, ◌+◌, ◌-◌, List, 
 use Rattle.std.proofs.lemmas.Bool.{cases_eq}
 use Rattle.std.proofs.lemmas.List.{length-append, map-append}
 use Rattle.chv_catalog.specs.declared.table_def.TableDef.{TableDef}
-use Rattle.chv_define.specs.Accepted.{Accepted, tables_of}
-use Rattle.chv_define.proofs.AcceptedLemmas.{tables_of-push}
+use Rattle.chv_query.specs.Accepted.{Accepted, tables_of}
+use Rattle.chv_query.proofs.AcceptedLemmas.{tables_of-push}
 use Rattle.chv_part.specs.Books.{IsSpaced}
 use Rattle.chv_part.proofs.BookLemmas.{IsSpaced-fresh}
-use Rattle.chv_plan.specs.Arrivals.{Arrival}
+use Rattle.chv_query.specs.Arrivals.{Arrival}
 use Rattle.chv_history.specs.Events.{Event, Created, Committed, Replied, Moment, behind, happen, with_commit, written_in}
 use Rattle.chv_history.specs.Histories.{History, ids_in, put_at, window_at, window_in, with_accepted}
 use Rattle.chv_history.specs.Spaced.{AreSpaced}

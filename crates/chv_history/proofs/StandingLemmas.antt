@@ -3,13 +3,13 @@ use Rattle.std.proofs.Common.{◌≡◌, ℕ, ◌+◌, ◌≤◌, List, [], ◌�
 use Rattle.std.proofs.lemmas.List.{append-nil, map_push}
 use Rattle.std.proofs.lemmas.List.Elements.{All-weaker}
 use Rattle.chv_commit.specs.Commits.{commit_spelling}
-use Rattle.chv_define.specs.Accepted.{Accepted, catalog_payload, tables_in, tables_of}
+use Rattle.chv_query.specs.Accepted.{Accepted, catalog_payload, tables_in, tables_of}
 use Rattle.chv_gate.specs.GateLog.{HasFrames}
 use Rattle.chv_part.specs.Books.{TableForm, Book, arrived, no_book, part_rows}
 use Rattle.chv_part.specs.Forms.{form_of}
 use Rattle.chv_part.specs.Parts.{IsPartFile}
 use Rattle.chv_part.specs.Standing.{FilesStand, IsPart, TableStands}
-use Rattle.chv_plan.specs.Arrivals.{Arrival, entry_in}
+use Rattle.chv_query.specs.Arrivals.{Arrival, entry_in}
 use Rattle.chv_site.specs.FileIds.{catalog_log, part_of, table_log}
 use Rattle.chv_site.specs.Files.{FileState}
 use Rattle.chv_site.specs.Images.{Image, IsFileImage, IsImage, IsLeft}

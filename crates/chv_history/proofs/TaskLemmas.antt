@@ -1,5 +1,5 @@
 -- What a task comes from.
-use Rattle.std.proofs.Common.{◌≡◌, ℕ, Bool, true, false, not, List, Option, None, Some, Result, Ok, Err, IfOk, refl, ap}
+use Rattle.std.proofs.Common.{◌≡◌, ℕ, Bool, true, false, not, Option, None, Some, Result, Ok, Err, IfOk, refl, ap}
 use Rattle.chv_ast.specs.declared.refusal.Refusal.{Refusal}
 use Rattle.chv_ast.specs.declared.refusal.Refusal.TheVariants.{LimitPassed, NotBuilt}
 use Rattle.chv_ast.specs.declared.statement.CreateTable.{CreateTable}
@@ -7,11 +7,12 @@ use Rattle.chv_ast.specs.declared.statement.Insert.{Insert}
 use Rattle.chv_ast.specs.declared.statement.Select.{Select}
 use Rattle.chv_ast.specs.declared.statement.Statement.{Statement}
 use Rattle.chv_ast.specs.declared.statement.Statement.TheVariants as statement
+use Rattle.chv_catalog.specs.Schemas.{Catalog}
 use Rattle.chv_catalog.specs.declared.table_def.TableDef.{TableDef}
-use Rattle.chv_define.specs.Accepted.{Table, is_built_table}
-use Rattle.chv_define.specs.Definitions.{defined}
+use Rattle.chv_query.specs.Accepted.{Table, is_built_table}
+use Rattle.chv_query.specs.Definitions.{defined}
 use Rattle.chv_query.specs.Tables.{table_of}
-use Rattle.chv_plan.specs.Plans.{planned}
+use Rattle.chv_query.specs.Plans.{planned}
 use Rattle.chv_query.specs.Queries.{Asked, asked}
 use Rattle.chv_types.specs.Steps.{and_then, refuse_if}
 use Rattle.chv_history.specs.Built.{is_built}
@@ -20,28 +21,28 @@ use Rattle.chv_history.specs.Tasks.{Task, Bring, Make, TellParts, TellRows, buil
 
 -- a fact of each task holds of the one of a statement: of a table that the statement makes; of blocks that it brings, for which
 -- there is room; of a query whose rows it tells; and of a table whose parts it tells
-module _ (tables : List TableDef) (entries : ℕ → ℕ) (Holds : Task → Type 0)
-    (rows : (select : Select) (query : Asked) → asked tables select ≡ Ok query → Holds (TellRows query)) (parts : (table : ℕ) (def : TableDef) → Holds (TellParts table def)) where
+module _ (catalog : Catalog) (entries : ℕ → ℕ) (Holds : Task → Type 0)
+    (rows : (select : Select) (query : Asked) → asked catalog select ≡ Ok query → Holds (TellRows query)) (parts : (table : ℕ) (def : TableDef) → Holds (TellParts table def)) where
   abbrev Makes : CreateTable → Type 0
-  Makes made = (def : TableDef) → is_built_table made ≡ true → defined tables made ≡ Ok def → Holds (Make (record { statement = statement.CreateTable made; definition = Table def }))
+  Makes made = (def : TableDef) → is_built_table made ≡ true → defined catalog made ≡ Ok def → Holds (Make (record { statement = statement.CreateTable made; definition = Table def }))
 
   abbrev Brings : Insert → Type 0
-  Brings brought = (plan : Plan) → planned tables brought ≡ Ok plan → has_room plan entries ≡ true → Holds (Bring plan)
+  Brings brought = (plan : Plan) → planned catalog brought ≡ Ok plan → has_room plan entries ≡ true → Holds (Bring plan)
 
-  made_by : (made : CreateTable) (def : Result TableDef Refusal) → defined tables made ≡ def → is_built_table made ≡ true → Makes made
+  made_by : (made : CreateTable) (def : Result TableDef Refusal) → defined catalog made ≡ def → is_built_table made ≡ true → Makes made
       → IfOk (and_then def (λ d. Ok (Make (record { statement = statement.CreateTable made; definition = Table d })))) Holds
   made_by made (Ok def) defines built make = make def built defines
   made_by made (Err refuses) defines built make = tt
 
-  room_by : (room : Bool) (brought : Insert) (plan : Plan) → has_room plan entries ≡ room → planned tables brought ≡ Ok plan → Brings brought → IfOk (refuse_if (not room) LimitPassed (Ok (Bring plan))) Holds
+  room_by : (room : Bool) (brought : Insert) (plan : Plan) → has_room plan entries ≡ room → planned catalog brought ≡ Ok plan → Brings brought → IfOk (refuse_if (not room) LimitPassed (Ok (Bring plan))) Holds
   room_by true brought plan room brings bring = bring plan brings room
   room_by false brought plan room brings bring = tt
 
-  brought_by : (brought : Insert) (plan : Result Plan Refusal) → planned tables brought ≡ plan → Brings brought → IfOk (and_then plan (λ p. refuse_if (not (has_room p entries)) LimitPassed (Ok (Bring p)))) Holds
+  brought_by : (brought : Insert) (plan : Result Plan Refusal) → planned catalog brought ≡ plan → Brings brought → IfOk (and_then plan (λ p. refuse_if (not (has_room p entries)) LimitPassed (Ok (Bring p)))) Holds
   brought_by brought (Ok plan) brings bring = room_by (has_room plan entries) brought plan refl brings bring
   brought_by brought (Err refuses) brings bring = tt
 
-  rows_by : (select : Select) (query : Result Asked Refusal) → asked tables select ≡ query → IfOk (and_then query (λ q. Ok (TellRows q))) Holds
+  rows_by : (select : Select) (query : Result Asked Refusal) → asked catalog select ≡ query → IfOk (and_then query (λ q. Ok (TellRows q))) Holds
   rows_by select (Ok query) asks = rows select query asks
   rows_by select (Err refuses) asks = tt
 
@@ -55,22 +56,22 @@ module _ (tables : List TableDef) (entries : ℕ → ℕ) (Holds : Task → Type
   abbrev BringsOf : Statement → Type 0
   BringsOf s = (brought : Insert) → s ≡ statement.Insert brought → Brings brought
 
-  built_by : (s : Statement) → is_built s ≡ true → MakesOf s → BringsOf s → IfOk (built_task tables entries s) Holds
+  built_by : (s : Statement) → is_built s ≡ true → MakesOf s → BringsOf s → IfOk (built_task catalog entries s) Holds
   unfolding is_built
-  built_by (statement.CreateTable made) built make bring = made_by made (defined tables made) refl built (make made refl)
-  built_by (statement.Insert brought) built make bring = brought_by brought (planned tables brought) refl (bring brought refl)
-  built_by (statement.Query select) built make bring = rows_by select (asked tables select) refl
-  built_by (statement.ShowParts parts) built make bring = parts_by (table_of tables parts.table)
+  built_by (statement.CreateTable made) built make bring = made_by made (defined catalog made) refl built (make made refl)
+  built_by (statement.Insert brought) built make bring = brought_by brought (planned catalog brought) refl (bring brought refl)
+  built_by (statement.Query select) built make bring = rows_by select (asked catalog select) refl
+  built_by (statement.ShowParts parts) built make bring = parts_by (table_of catalog parts.table)
   built_by (statement.CreateView made) built make bring = tt
   built_by (statement.Optimize parts) built make bring = tt
   built_by statement.FlushQueue built make bring = tt
 
-  checked_by : (b : Bool) (s : Statement) → is_built s ≡ b → MakesOf s → BringsOf s → IfOk (refuse_if (not b) NotBuilt (built_task tables entries s)) Holds
+  checked_by : (b : Bool) (s : Statement) → is_built s ≡ b → MakesOf s → BringsOf s → IfOk (refuse_if (not b) NotBuilt (built_task catalog entries s)) Holds
   checked_by true s built make bring = built_by s built make bring
   checked_by false s built make bring = tt
 
   pub task_holds : (s : Option Statement)
       → ((made : CreateTable) → s ≡ Some (statement.CreateTable made) → Makes made) → ((brought : Insert) → s ≡ Some (statement.Insert brought) → Brings brought)
-      → IfOk (task_of tables entries s) Holds
+      → IfOk (task_of catalog entries s) Holds
   task_holds None make bring = tt
   task_holds (Some s) make bring = checked_by (is_built s) s refl (λ made is. make made (ap Some is)) (λ brought is. bring brought (ap Some is))

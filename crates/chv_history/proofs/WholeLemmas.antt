@@ -7,16 +7,16 @@ use Rattle.chv_ast.specs.declared.refusal.Refusal.{Refusal}
 use Rattle.chv_block.specs.Spellings.{block_spelling}
 use Rattle.chv_block.proofs.LawLemmas.{one_block}
 use Rattle.chv_catalog.specs.declared.table_def.TableDef.{TableDef}
-use Rattle.chv_define.specs.Accepted.{Accepted, Definition, tables_in, tables_of}
-use Rattle.chv_define.proofs.AcceptedLemmas.{tables_of-push}
+use Rattle.chv_query.specs.Accepted.{Accepted, Definition, catalog_of, tables_in, tables_of}
+use Rattle.chv_query.proofs.AcceptedLemmas.{tables_of-push}
 use Rattle.chv_part.specs.Arriving.{fresh}
 use Rattle.chv_part.specs.Books.{TableForm, Entry}
 use Rattle.chv_part.specs.Forms.{form_of}
 use Rattle.chv_part.specs.Naming.{Names}
 use Rattle.chv_part.proofs.BookLemmas.{All-fresh}
-use Rattle.chv_plan.specs.Arrivals.{Arrival, IsArrival, arrival_of, entry_in}
-use Rattle.chv_plan.specs.Plans.{Delivery}
-use Rattle.chv_plan.proofs.ArrivalLemmas.{ArrivesIn}
+use Rattle.chv_query.specs.Arrivals.{Arrival, IsArrival, arrival_of, entry_in}
+use Rattle.chv_query.specs.Plans.{Delivery}
+use Rattle.chv_query.proofs.ArrivalLemmas.{ArrivesIn}
 use Rattle.chv_query.specs.Queries.{divides}
 use Rattle.chv_sip.specs.BlockIds.{SourceKey, Content, Token}
 use Rattle.chv_sip.specs.declared.block_id.BlockId.{BlockId}
@@ -179,7 +179,7 @@ pub brought_behind : (requests : List Request) (m : Moment) (done left : List Ev
 brought_behind requests m done left none split =
     while_behind Brought requests m done left
     (while_run Brought (λ (request : Request). Unit {0})
-    (λ request before n asks brought. brought_answer request.client (task_of (tables_of n.history.schema) (entries_in n.history) request.statement) before n brought)
+    (λ request before n asks brought. brought_answer request.client (task_of (catalog_of n.history.schema) (entries_in n.history) request.statement) before n brought)
     requests [] m (λ k d within. tt) (subst (All (IsBrought [])) (sym none) (All-nil (IsBrought []))))
     split
 
@@ -255,7 +255,7 @@ arriving_behind requests m done left lawful formed none split =
     (while_run Both IsFormed
     (λ request before n asks both.
     while_both Lawful Arriving (request_events request n.history) before n (lawful_request request before n asks both.0)
-    (arriving_answer request.client (task_of (tables_of n.history.schema) (entries_in n.history) request.statement) before n (sound_task request n.history both.0 asks) both.1))
+    (arriving_answer request.client (task_of (catalog_of n.history.schema) (entries_in n.history) request.statement) before n (sound_task request n.history both.0 asks) both.1))
     requests [] m formed
     (lawful, subst (All (All (ArrivesIn (tables_of m.history.schema)))) (sym none) (All-nil (All (ArrivesIn (tables_of m.history.schema))))))
     split

@@ -1,9 +1,9 @@
 -- What it means that an insert is acknowledged, that it is held, and that it stands whole.
 use Rattle.std.specs.Prelude.{ℕ, ◌≡◌, ◌≤◌, ◌==◌, List, [], ◌∷◌, ◌++◌, length, if◌then◌else◌}
 use Rattle.std.specs.List.{All, Contains}
-use Rattle.chv_define.specs.Accepted.{tables_of}
-use Rattle.chv_plan.specs.Arrivals.{Arrival, entry_in}
-use Rattle.chv_plan.specs.Plans.{Delivery}
+use Rattle.chv_query.specs.Accepted.{tables_of}
+use Rattle.chv_query.specs.Arrivals.{Arrival, entry_in}
+use Rattle.chv_query.specs.Plans.{Delivery}
 use Rattle.chv_sip.specs.BlockIds.{Token}
 use Rattle.chv_history.specs.Events.{Plan, Event, Created, Committed, Replied, Moment}
 use Rattle.chv_history.specs.Histories.{History, book_of, ids_in}

@@ -10,7 +10,7 @@ use Rattle.chv_ast.specs.declared.statement.Item.TheVariants as shown
 use Rattle.chv_ast.specs.declared.statement.Select.{Select}
 use Rattle.chv_ast.specs.declared.statement.Statement.{Statement}
 use Rattle.chv_ast.specs.declared.statement.Statement.TheVariants as statement
-use Rattle.chv_define.specs.Accepted.{is_built_table}
+use Rattle.chv_query.specs.Accepted.{is_built_table}
 use Rattle.chv_types.specs.Aggregates.{agg_of}
 
 -- a list has no item

@@ -1,9 +1,9 @@
 -- What happens to a history, event by event.
 use Rattle.std.specs.Prelude.{ℕ, Bool, false, List, [], ◌∷◌, ◌++◌, length, ◌||◌, suc}
-use Rattle.chv_define.specs.Accepted.{Accepted, tables_of}
+use Rattle.chv_query.specs.Accepted.{Accepted, tables_of}
 use Rattle.chv_part.specs.Arriving.{fresh, with_part}
-use Rattle.chv_plan.specs.Arrivals.{Arrival}
-use Rattle.chv_plan.specs.Plans.{Delivery}
+use Rattle.chv_query.specs.Arrivals.{Arrival}
+use Rattle.chv_query.specs.Plans.{Delivery}
 use Rattle.chv_history.specs.Histories.{History, ids_in, window_at, put_at, with_accepted}
 
 -- an insert: its deliveries

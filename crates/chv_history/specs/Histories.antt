@@ -3,11 +3,11 @@ use Rattle.std.specs.Prelude.{ℕ, ◌≡◌, ◌+◌, ◌-◌, ◌==◌, List, 
 use Rattle.std.specs.List.{All}
 use Rattle.chv_catalog.specs.declared.table_def.TableDef.{TableDef}
 use Rattle.chv_commit.specs.Replays.{Span}
-use Rattle.chv_define.specs.Accepted.{Accepted, tables_of, IsSchema, catalog_payload}
+use Rattle.chv_query.specs.Accepted.{Accepted, tables_of, IsSchema, catalog_payload}
 use Rattle.chv_part.specs.Books.{TableForm, Book, IsLawfulBook}
 use Rattle.chv_part.specs.Forms.{form_of}
 use Rattle.chv_part.specs.Standing.{FilesStand}
-use Rattle.chv_plan.specs.Arrivals.{Arrival, entry_in, IsArrival}
+use Rattle.chv_query.specs.Arrivals.{Arrival, entry_in, IsArrival}
 use Rattle.chv_sip.specs.declared.block_id.BlockId.{BlockId}
 use Rattle.chv_site.specs.declared.file_id.FileId.{FileId}
 use Rattle.chv_site.specs.Files.{FileState, settled}

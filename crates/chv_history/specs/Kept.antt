@@ -1,12 +1,13 @@
 -- What a run does with the numbers that it holds of its tables, whatever the files hold.
-use Rattle.std.specs.Prelude.{ℕ, ◌≡◌, ◌+◌, Bool, true, false, ◌||◌, List, [], ◌∷◌, ◌++◌, length, if◌then◌else◌, None, Some, Result, Ok, Err, slice_get}
+use Rattle.std.specs.Prelude.{ℕ, ◌≡◌, ◌+◌, Bool, true, false, ◌||◌, List, [], ◌∷◌, length, if◌then◌else◌, None, Some, Result, Ok, Err, slice_get}
 use Rattle.std.specs.List.{list_any}
 use Rattle.chv_ast.specs.declared.refusal.Refusal.{Refusal}
+use Rattle.chv_catalog.specs.Schemas.{Catalog}
 use Rattle.chv_catalog.specs.declared.table_def.TableDef.{TableDef}
 use Rattle.chv_commit.specs.Replays.{State, no_state, added}
-use Rattle.chv_define.specs.Accepted.{tables_in, tables_of}
-use Rattle.chv_plan.specs.Arrivals.{Arrival}
-use Rattle.chv_plan.specs.Plans.{Delivery}
+use Rattle.chv_query.specs.Accepted.{catalog_of, with_definition}
+use Rattle.chv_query.specs.Arrivals.{Arrival}
+use Rattle.chv_query.specs.Plans.{Delivery}
 use Rattle.chv_query.specs.Queries.{Asked, made_of}
 use Rattle.chv_types.specs.declared.value.Value.{Value}
 use Rattle.chv_sip.specs.BlockIds.{id_eq, last_ids}
@@ -15,9 +16,9 @@ use Rattle.chv_history.specs.Histories.{History, ids_in, window_at, put_at}
 use Rattle.chv_history.specs.Script.{Request}
 use Rattle.chv_history.specs.Tasks.{Task, Make, Bring, TellRows, TellParts, task_of}
 
--- what is held: the tables, and what the log of each says, by the table's number
+-- what is held: what is defined, and what the log of each table says, by the table's number
 pub record Kept : Type 0 where
-  pub tables : List TableDef
+  pub catalog : Catalog
   pub states : ℕ → State
 
 -- what a log says behind a block that arrives: where its id is not among the last, there is a part more
@@ -28,7 +29,7 @@ noted window arrival state =
 -- what is held behind a delivery
 abbrev pub kept_delivery : Delivery → Kept → Kept
 kept_delivery delivery kept = record kept {
-  states = put_at delivery.table (noted (window_at kept.tables delivery.table) delivery.entry (kept.states delivery.table)) kept.states;
+  states = put_at delivery.table (noted (window_at kept.catalog.tables delivery.table) delivery.entry (kept.states delivery.table)) kept.states;
 }
 
 -- what is held behind deliveries that are made one after the other
@@ -39,7 +40,7 @@ kept_plan (delivery ∷ plan) kept = kept_plan plan (kept_delivery delivery kept
 -- what is held behind a client's statement
 abbrev pub kept_task : Result Task Refusal → Kept → Kept
 kept_task (Ok (Make accepted)) kept =
-    record { tables = kept.tables ++ tables_in accepted.definition; states = put_at (length kept.tables + 1) no_state kept.states }
+    record { catalog = with_definition kept.catalog accepted.definition; states = put_at (length kept.catalog.tables + 1) no_state kept.states }
 kept_task (Ok (Bring plan)) kept = kept_plan plan kept
 kept_task (Ok (TellRows query)) kept = kept
 kept_task (Ok (TellParts table def)) kept = kept
@@ -51,7 +52,7 @@ entries_kept kept table = (kept.states table).entries
 
 -- the task of a request
 abbrev pub kept_answer : Request → Kept → Result Task Refusal
-kept_answer request kept = task_of kept.tables (entries_kept kept) request.statement
+kept_answer request kept = task_of kept.catalog (entries_kept kept) request.statement
 
 -- what is held behind requests that are answered in order
 abbrev pub kept_behind : List Request → Kept → Kept
@@ -77,8 +78,8 @@ Refuses (request ∷ requests) kept refused =
     (first later : Bool) × (refused ≡ (first || later)) × IsRefused (kept_answer request kept) first
     × Refuses requests (kept_task (kept_answer request kept) kept) later
 
--- what is held is that of a history: its tables, and of each as many entries, and the last of their ids
+-- what is held is that of a history: what it defines, and of each table as many entries, and the last of their ids
 pub record IsKeptOf (kept : Kept) (history : History) : Type 0 where
-  pub tables : kept.tables ≡ tables_of history.schema
-  pub entries : (place : ℕ) (def : TableDef) → slice_get kept.tables place ≡ Some def → entries_kept kept (place + 1) ≡ length (history.arrivals (place + 1))
-  pub ids : (place : ℕ) (def : TableDef) → slice_get kept.tables place ≡ Some def → (kept.states (place + 1)).ids ≡ last_ids def.window (ids_in (history.arrivals (place + 1)))
+  pub catalog : kept.catalog ≡ catalog_of history.schema
+  pub entries : (place : ℕ) (def : TableDef) → slice_get kept.catalog.tables place ≡ Some def → entries_kept kept (place + 1) ≡ length (history.arrivals (place + 1))
+  pub ids : (place : ℕ) (def : TableDef) → slice_get kept.catalog.tables place ≡ Some def → (kept.states (place + 1)).ids ≡ last_ids def.window (ids_in (history.arrivals (place + 1)))

@@ -1,9 +1,9 @@
 -- What a run does, request by request.
 use Rattle.std.specs.Prelude.{ℕ, ◌+◌, ◌-◌, true, false, List, [], ◌∷◌, ◌++◌, length, map, Result, Ok, Err}
 use Rattle.chv_ast.specs.declared.refusal.Refusal.{Refusal}
-use Rattle.chv_define.specs.Accepted.{tables_of}
+use Rattle.chv_query.specs.Accepted.{catalog_of}
 use Rattle.chv_part.specs.Forms.{form_of}
-use Rattle.chv_plan.specs.Plans.{Delivery}
+use Rattle.chv_query.specs.Plans.{Delivery}
 use Rattle.chv_query.specs.Queries.{divides}
 use Rattle.chv_text.specs.Replies.{ok_line, insert_line, refused_line}
 use Rattle.chv_history.specs.Events.{Plan, Event, Created, Committed, Replied, Moment, written_in, with_commit, behind}
@@ -52,7 +52,7 @@ entries_in history table = length (history.arrivals table)
 -- the events of a request
 abbrev pub request_events : Request → History → List Event
 request_events request history =
-    answer_events request.client (task_of (tables_of history.schema) (entries_in history) request.statement) history
+    answer_events request.client (task_of (catalog_of history.schema) (entries_in history) request.statement) history
 
 -- the events of requests that are answered in order
 abbrev pub run_events : List Request → Moment → List Event

@@ -1,7 +1,7 @@
 -- That no block stands twice within its table's window.
 use Rattle.std.specs.Prelude.{ℕ, ◌≡◌, ◌+◌, Some, slice_get}
 use Rattle.chv_catalog.specs.declared.table_def.TableDef.{TableDef}
-use Rattle.chv_define.specs.Accepted.{tables_of}
+use Rattle.chv_query.specs.Accepted.{tables_of}
 use Rattle.chv_part.specs.Books.{IsSpaced}
 use Rattle.chv_history.specs.Histories.{History, ids_in}
 

@@ -9,10 +9,9 @@ use Rattle.chv_block.specs.declared.squasher.Sizes.{Sizes}
 use Rattle.chv_block.specs.declared.squasher.Squasher.{Squasher}
 use Rattle.chv_types.specs.declared.kind.Kind.{Kind}
 use Rattle.chv_types.specs.declared.value.Value.{Value}
-use Rattle.chv_plan.proofs.JoinLemmas.{AreBlocks-blocks_of, some-blocks_of}
+use Rattle.chv_query.proofs.JoinLemmas.{AreBlocks-blocks_of, some-blocks_of}
 use Rattle.chv_plan.proofs.RowLemmas.{in_front, in_front-none, rows_step, rows_refused, rows_end, AllAreOf-more}
-use Rattle.chv_plan.specs.Blocks.{AreBlocks}
-use Rattle.chv_plan.specs.Plans.{row_for, rows_for, sized_rows}
+use Rattle.chv_query.specs.Plans.{AreBlocks, row_for, rows_for, sized_rows}
 
 -- of these lists of literals so many wrote rows, which were fed, and these blocks were given
 pub record AreWritten (kinds : List Kind) (places : List ℕ) (lists : List (List Literal)) (count : ℕ) (sizes : Sizes) (given : List (List (List Value))) (squasher : Squasher) : Type 0 where

@@ -6,9 +6,9 @@ use Rattle.chv_block.specs.Spellings.{AllAreOf}
 use Rattle.chv_part.specs.Books.{TableForm}
 use Rattle.chv_types.specs.declared.kind.Kind.{Kind}
 use Rattle.chv_types.specs.declared.value.Value.{Value}
-use Rattle.chv_plan.specs.Arrivals.{arrival_of}
-use Rattle.chv_plan.specs.Blocks.{AreBlocks, Holds, HoldsAll}
-use Rattle.chv_plan.specs.Plans.{source_of}
+use Rattle.chv_query.specs.Arrivals.{arrival_of}
+use Rattle.chv_plan.specs.Blocks.{Holds, HoldsAll}
+use Rattle.chv_query.specs.Plans.{AreBlocks, source_of}
 use Rattle.chv_plan.specs.declared.delivery.Delivery.{Delivery as Held}
 
 -- what is held of one block more

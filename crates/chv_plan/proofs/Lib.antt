@@ -1,9 +1,6 @@
-pub mod ArrivalLemmas
 pub mod BlockLemmas
 pub mod FeedLemmas
 pub mod HeldLemmas
-pub mod JoinLemmas
-pub mod LiteralLemmas
 pub mod PlaceLemmas
 pub mod PlanLemmas
 pub mod RowLemmas

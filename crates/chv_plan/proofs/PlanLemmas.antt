@@ -1,7 +1,6 @@
 -- What an INSERT brings, step by step.
-use Rattle.std.proofs.Common.{◌≡◌, ◌≤◌, ◌<◌, ◌+◌, ◌-◌, ◌^◌, Bool, true, false, ℕ, List, [], ◌∷◌, length, Option, Some, None, option_map, Result, Ok, Err, nat_lt, slice_get, refl, sym, ap, ◌∙◌, arith, rules, tests}
+use Rattle.std.proofs.Common.{◌≡◌, ◌≤◌, ◌+◌, ◌-◌, Bool, true, false, ℕ, List, [], ◌∷◌, length, Option, Some, None, option_map, Result, Ok, Err, nat_lt, slice_get, refl, sym, ap, ◌∙◌, arith, rules, tests}
 use Rattle.std.specs.List.{All}
-use Rattle.std.proofs.lemmas.Bool.Decides.{nat_tests}
 use Rattle.chv_ast.specs.declared.expr.Literal.{Literal}
 use Rattle.chv_ast.specs.declared.statement.Insert.{Insert}
 use Rattle.chv_ast.specs.declared.refusal.Refusal.{Refusal}
@@ -9,20 +8,21 @@ use Rattle.chv_ast.specs.declared.refusal.Refusal.TheVariants.{UnknownTable, Unk
 use Rattle.chv_block.specs.Blocks.{blocks_of}
 use Rattle.chv_block.specs.declared.squasher.Sizes.{Sizes}
 use Rattle.chv_query.specs.Tables.{table_of}
-use Rattle.chv_catalog.specs.Schemas.{kinds_of, names_of}
+use Rattle.chv_catalog.specs.Schemas.{Catalog, kinds_of, table_names}
 use Rattle.chv_catalog.specs.declared.table_def.TableDef.{TableDef}
 use Rattle.chv_part.specs.Books.{MAX_ROWS}
 use Rattle.chv_part.specs.Forms.{form_of}
-use Rattle.chv_part.specs.Naming.{Names}
 use Rattle.chv_types.specs.Names.{place_of}
 use Rattle.chv_types.specs.Steps.{refuse_if, and_then, or_refuse}
 use Rattle.chv_types.specs.declared.kind.Kind.{Kind}
 use Rattle.chv_types.specs.declared.value.Value.{Value}
 use Rattle.chv_plan.proofs.HeldLemmas.{held-tables, held-count}
-use Rattle.chv_plan.proofs.JoinLemmas.{length-AreBlocks, AreBlocks-more}
-use Rattle.chv_plan.specs.Blocks.{AreBlocks, HoldsAll, Brings}
+use Rattle.chv_query.proofs.ArrivalLemmas.{named}
+use Rattle.chv_query.proofs.JoinLemmas.{length-AreBlocks, AreBlocks-more}
+use Rattle.chv_plan.specs.Blocks.{HoldsAll, Brings}
+use Rattle.chv_plan.specs.Deliveries.{DeliversAll}
 use Rattle.chv_plan.specs.Places.{filled_places}
-use Rattle.chv_plan.specs.Plans.{Delivery, DeliversAll, deliveries_of, is_long, planned, planned_for, rows_for, sized_rows, sizes_for, source_of}
+use Rattle.chv_query.specs.Plans.{AreBlocks, Delivery, deliveries_of, is_long, planned, planned_for, rows_for, sized_rows, sizes_for}
 use Rattle.chv_plan.specs.declared.delivery.Delivery.{Delivery as Held}
 
 -- checks that refuse nothing leave what follows them
@@ -86,24 +86,15 @@ numbered tables (Some place) number def is stands =
     let there : slice_get tables place ≡ Some def = rw before at stands in
     (rw (there, next) refl, omega arith)
 
-pub found_table : (tables : List TableDef) (name : List ℕ) (number : ℕ) (def : TableDef) → Some number ≡ option_map (λ place. place + 1) (place_of name (names_of tables))
-    → slice_get tables (number - 1) ≡ Some def → (table_of tables name ≡ Ok (number, def)) × (1 ≤ number)
-found_table tables name number def is stands = numbered tables (place_of name (names_of tables)) number def (sym is) stands
+pub found_table : (catalog : Catalog) (name : List ℕ) (number : ℕ) (def : TableDef) → Some number ≡ option_map (λ place. place + 1) (place_of name (table_names catalog.tables))
+    → slice_get catalog.tables (number - 1) ≡ Some def → (table_of catalog name ≡ Ok (number, def)) × (1 ≤ number)
+found_table catalog name number def is stands = numbered catalog.tables (place_of name (table_names catalog.tables)) number def (sym is) stands
 
 -- an INSERT brings what it brings to its table
-pub planned_there : (tables : List TableDef) (insert : Insert) (number : ℕ) (def : TableDef) → table_of tables insert.table ≡ Ok (number, def)
-    → planned tables insert ≡ planned_for number def insert
+pub planned_there : (catalog : Catalog) (insert : Insert) (number : ℕ) (def : TableDef) → table_of catalog insert.table ≡ Ok (number, def)
+    → planned catalog insert ≡ planned_for number def insert
 unfolding planned
-planned_there tables insert number def found = rw found refl
-
-most-255 : (n : ℕ) → nat_lt 255 n ≡ false → n ≤ 255
-most-255 n short = grind (arith, nat_tests)
-
--- a block of an insert goes by what names it
-pub named : (kinds : List Kind) (token : Option (List ℕ)) (number : ℕ) (block : List (List Value)) → is_long token ≡ false → number < 2 ^ 20 → Names kinds block (source_of kinds token number block)
-named kinds None number block short within = refl
-named kinds (Some []) number block short within = refl
-named kinds (Some (byte ∷ token)) number block short within = (omega arith, most-255 (length (byte ∷ token)) short, within)
+planned_there catalog insert number def found = rw found refl
 
 -- what is held of blocks is that of their deliveries, each an arrival in the table
 delivers_all : (tables : List TableDef) (number : ℕ) (def : TableDef) (token : Option (List ℕ)) (from most : ℕ) (blocks : List (List (List Value))) (held : List Held)

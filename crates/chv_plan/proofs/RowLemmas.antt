@@ -1,22 +1,20 @@
 -- Rows that are written value by value are those that are arranged.
 use Rattle.std.proofs.Common.{◌≡◌, ◌<◌, ◌≤◌, ◌+◌, ◌++◌, ℕ, zero, suc, true, false, if◌then◌else◌, List, [], ◌∷◌, map, length, get_or, drop, set, Result, Ok, Err, nat_eq, refl, sym, ap, ◌∙◌, arith, rules, append_assoc, length-drop}
-use Rattle.std.specs.List.{list_any, All}
+use Rattle.std.specs.List.{list_any}
 use Rattle.std.proofs.Math.Seq.{drop-cons}
 use Rattle.std.proofs.lemmas.Bool.{or_parts, ne_eqb}
-use Rattle.std.proofs.lemmas.Int.{ints}
 use Rattle.std.proofs.lemmas.Option.{slice_get-get_or}
 use Rattle.chv_ast.specs.declared.expr.Literal.{Literal}
 use Rattle.chv_ast.specs.declared.refusal.Refusal.{Refusal}
-use Rattle.chv_ast.specs.declared.refusal.Refusal.TheVariants.{WrongWidth}
 use Rattle.chv_block.specs.Spellings.{IsOf, AreOf, AllAreOf}
 use Rattle.chv_types.specs.Steps.{and_then}
-use Rattle.chv_types.specs.Values.{IsPlain, default_of}
+use Rattle.chv_types.specs.Values.{default_of}
 use Rattle.chv_types.specs.declared.kind.Kind.{Kind}
 use Rattle.chv_types.specs.declared.kind.Kind.TheVariants as kind
 use Rattle.chv_types.specs.declared.kind.Scalar.TheVariants as scalar
 use Rattle.chv_types.specs.declared.value.Value.{Value}
 use Rattle.chv_plan.specs.Places.{ArePlaces, written}
-use Rattle.chv_plan.specs.Plans.{kinds_at, value_for, values_for, value_at, arranged, row_for, rows_for}
+use Rattle.chv_query.specs.Plans.{kinds_at, value_for, values_for, value_at, arranged, row_for, rows_for}
 
 -- the value at a place of a row, where values are written over it
 abbrev pub found_at : ℕ → Value → List ℕ → List Value → Value
@@ -117,10 +115,6 @@ row_for-written kinds places literals are width =
     (in_order (values_for (kinds_at kinds places) literals) _ _
     (λ values. laid_defaults 0 kinds places values ∙ sym (overlaid_laid (length kinds) (map default_of kinds) places values are)))
 
-pub row_for-width : (kinds : List Kind) (places : List ℕ) (literals : List Literal) → nat_eq (length literals) (length places) ≡ false
-    → row_for kinds places literals ≡ Err WrongWidth
-row_for-width kinds places literals differ = rw differ refl
-
 -- the value that is written next, or refused
 pub written_step : (kinds : List Kind) (places : List ℕ) (literals : List Literal) (row : List Value) (i next : ℕ) (literal : Literal) (none : Kind) (value : Value)
     → i < length places → i < length literals → literal ≡ get_or literals i literal → get_or places i 0 < length kinds
@@ -157,24 +151,6 @@ AreOf-set [] row place none value of within is = absurd (omega arith)
 AreOf-set (first ∷ kinds) [] place none value of within is = absurd of
 AreOf-set (first ∷ kinds) (old ∷ row) zero none value of within is = (is, of.1)
 AreOf-set (first ∷ kinds) (old ∷ row) (suc place) none value of within is = (of.0, AreOf-set kinds row place none value of.1 (omega arith) is)
-
-default_kind : (of : Kind) → IsPlain of → IsOf of (default_of of)
-default_kind (kind.Plain scalar.UInt8) plain = search (rules, ints)
-default_kind (kind.Plain scalar.UInt16) plain = search (rules, ints)
-default_kind (kind.Plain scalar.UInt32) plain = search (rules, ints)
-default_kind (kind.Plain scalar.UInt64) plain = search (rules, ints)
-default_kind (kind.Plain scalar.Int8) plain = search (rules, ints)
-default_kind (kind.Plain scalar.Int16) plain = search (rules, ints)
-default_kind (kind.Plain scalar.Int32) plain = search (rules, ints)
-default_kind (kind.Plain scalar.Int64) plain = search (rules, ints)
-default_kind (kind.Plain scalar.Bool) plain = refl
-default_kind (kind.Plain scalar.Text) plain = (refl, omega arith)
-default_kind (kind.State agg arg) plain = absurd plain
-
--- the defaults are of the kinds of their columns
-pub defaults_are : (kinds : List Kind) → All IsPlain kinds → AreOf kinds (map default_of kinds)
-defaults_are [] plain = tt
-defaults_are (first ∷ kinds) plain = (default_kind first (plain 0 first (omega arith)), defaults_are kinds (λ k d within. plain (suc k) d (omega (arith, within))))
 
 -- rows that were read, in front of those that are left
 abbrev pub in_front : List (List Value) → Result (List (List Value)) Refusal → Result (List (List Value)) Refusal

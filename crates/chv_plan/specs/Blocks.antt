@@ -1,7 +1,6 @@
 -- Blocks as deliveries.
-use Rattle.std.specs.Prelude.{ℕ, false, ◌≡◌, ◌+◌, ◌-◌, ◌≤◌, List, [], ◌∷◌, length, Option, Ok}
+use Rattle.std.specs.Prelude.{ℕ, false, ◌≡◌, ◌+◌, ◌≤◌, List, [], ◌∷◌, length, Option, Ok}
 use Rattle.chv_ast.specs.declared.statement.Insert.{Insert}
-use Rattle.chv_block.specs.Spellings.{AllAreOf}
 use Rattle.chv_catalog.specs.Schemas.{kinds_of}
 use Rattle.chv_catalog.specs.declared.table_def.TableDef.{TableDef}
 use Rattle.chv_part.specs.Books.{TableForm, MAX_ROWS}
@@ -9,8 +8,8 @@ use Rattle.chv_part.specs.Forms.{form_of}
 use Rattle.chv_part.specs.Parts.{part_file}
 use Rattle.chv_types.specs.declared.kind.Kind.{Kind}
 use Rattle.chv_types.specs.declared.value.Value.{Value}
-use Rattle.chv_plan.specs.Arrivals.{Arrival, arrival_of}
-use Rattle.chv_plan.specs.Plans.{planned_for, is_long, source_of, deliveries_of}
+use Rattle.chv_query.specs.Arrivals.{Arrival, arrival_of}
+use Rattle.chv_query.specs.Plans.{AreBlocks, planned_for, is_long, source_of, deliveries_of}
 use Rattle.chv_plan.specs.declared.delivery.Delivery.{Delivery as Held}
 
 -- what is held of an arrival in a table
@@ -19,12 +18,6 @@ pub record Holds (table : ℕ) (kinds : List Kind) (arrival : Arrival) (held : H
   pub id : held.id ≡ arrival.id
   pub rows : held.rows ≡ length arrival.rows
   pub encoded : held.encoded ≡ part_file kinds arrival.rows
-
--- blocks of one row or more, of these kinds, with no more rows together than this
-abbrev pub AreBlocks : List Kind → ℕ → List (List (List Value)) → Type 0
-AreBlocks kinds most [] = Unit {0}
-AreBlocks kinds most (block ∷ blocks) =
-    AllAreOf kinds block × (1 ≤ length block) × (length block ≤ most) × AreBlocks kinds (most - length block) blocks
 
 -- what is held of blocks for a table of this form, numbered from this number on
 abbrev pub HoldsAll : ℕ → TableForm → Option (List ℕ) → ℕ → List (List (List Value)) → List Held → Type 0

@@ -1,5 +1,3 @@
-pub mod Arrivals
 pub mod Blocks
-pub mod Literals
+pub mod Deliveries
 pub mod Places
-pub mod Plans

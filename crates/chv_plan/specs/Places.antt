@@ -9,7 +9,7 @@ use Rattle.chv_types.specs.Steps.{refuse_if, and_then, or_refuse}
 use Rattle.chv_types.specs.declared.kind.Kind.{Kind}
 use Rattle.chv_types.specs.declared.table.Column.{Column}
 use Rattle.chv_types.specs.declared.value.Value.{Value}
-use Rattle.chv_plan.specs.Plans.{filled_names, kinds_at, value_for}
+use Rattle.chv_query.specs.Plans.{filled_names, kinds_at, value_for}
 
 -- places of so many columns, each of them once
 abbrev pub ArePlaces : ℕ → List ℕ → Type 0

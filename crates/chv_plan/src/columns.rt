@@ -3,7 +3,7 @@ ghost use Rattle.std.specs.Prelude.{◌≡◌, ◌≤◌, ◌∷◌, [], length,
 ghost use Rattle.std.specs.List.{list_any};
 ghost use Rattle.chv_ast.specs.declared.refusal.Refusal.{Refusal};
 ghost use Rattle.chv_catalog.specs.Checks.{is_state};
-ghost use Rattle.chv_plan.specs.Plans.{kinds_at};
+ghost use Rattle.chv_query.specs.Plans.{kinds_at};
 ghost use Rattle.chv_plan.specs.Places.{ArePlaces, kinds_in, checked_places, filled_places};
 
 use chv_ast::{Names, Refusal};

@@ -11,10 +11,11 @@ ghost use Rattle.chv_part.specs.Forms.{form_of};
 ghost use Rattle.chv_sip.specs.BlockIds.{id_of, content_key, source_id};
 ghost use Rattle.chv_types.specs.Values.{IsPlain};
 ghost use Rattle.chv_types.specs.declared.value.Value.{Value as SomeValue};
-ghost use Rattle.chv_plan.specs.Arrivals.{arrival_of};
-ghost use Rattle.chv_plan.specs.Blocks.{Holds, HoldsAll, Brings, AreBlocks};
+ghost use Rattle.chv_query.specs.Arrivals.{arrival_of};
+ghost use Rattle.chv_query.specs.Plans.{AreBlocks, Delivery as Planned, planned, planned_for, rows_for, sized_rows, is_long, source_of};
+ghost use Rattle.chv_plan.specs.Blocks.{Holds, HoldsAll, Brings};
+ghost use Rattle.chv_plan.specs.Deliveries.{DeliversAll};
 ghost use Rattle.chv_plan.specs.Places.{ArePlaces};
-ghost use Rattle.chv_plan.specs.Plans.{Delivery as Planned, DeliversAll, planned, planned_for, rows_for, sized_rows, is_long, source_of};
 
 use crate::columns::filled_places;
 use crate::row::row_for;
@@ -35,15 +36,15 @@ const MAX_ROWS: usize = 1048576;
 
 /// What an INSERT brings to its table: blocks that are ready to be delivered, in order. It is refused by the first check that
 /// holds. So far no column of the tables is a state.
-#[tactic(auto, unfolding(crate::specs::Plans::planned))]
+#[tactic(auto, unfolding(chv_query::specs::Plans::planned))]
 pub fn plan_insert(alloc: Global, schema: &Schema, insert: &Insert) -> Result<Plan, StatementFault>
     requires formed { FormedInsert insert.now }
-    requires plain { All (λ def. All IsPlain (kinds_of def)) schema.now.tables }
-    requires few { All (λ def. length (kinds_of def) ≤ 64) schema.now.tables }
-    ensures planned { IfOk result (λ held. (plan : List Planned) × (planned schema.now.tables insert.now ≡ Ok plan) × DeliversAll schema.now.tables held.deliveries plan) }
+    requires plain { All (λ def. All IsPlain (kinds_of def)) schema.now.catalog.tables }
+    requires few { All (λ def. length (kinds_of def) ≤ 64) schema.now.catalog.tables }
+    ensures planned { IfOk result (λ held. (plan : List Planned) × (planned schema.now.catalog insert.now ≡ Ok plan) × DeliversAll schema.now.catalog.tables held.deliveries plan) }
     ensures one_table { IfOk result (λ held. (table : ℕ) × All (λ delivery. delivery.table ≡ table) held.deliveries) }
     ensures count { IfOk result (λ held. (1 ≤ length held.deliveries) × (length held.deliveries ≤ MAX_ROWS)) }
-    ensures refused { IfErr result (λ fault. (refusal : Refusal) → fault ≡ StatementFault.Refused refusal → planned schema.now.tables insert.now ≡ Err refusal) }
+    ensures refused { IfErr result (λ fault. (refusal : Refusal) → fault ≡ StatementFault.Refused refusal → planned schema.now.catalog insert.now ≡ Err refusal) }
 {
     match schema.table(insert.table.as_slice()) {
         Some(number) => plan_for(alloc, number, schema.table_def(number), insert),

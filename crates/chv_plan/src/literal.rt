@@ -3,7 +3,7 @@ ghost use Rattle.std.specs.Prelude.{◌≡◌, ◌≢◌, true, Ok, Err, IfOk, I
 ghost use Rattle.chv_ast.specs.declared.refusal.Refusal.{Refusal};
 ghost use Rattle.chv_types.specs.Texts.{value_of};
 ghost use Rattle.chv_types.specs.Fits.{IsOfScalar};
-ghost use Rattle.chv_plan.specs.Literals.{whole_text, or_bad, whole_value, truth_value, quoted_value, literal_value};
+ghost use Rattle.chv_query.specs.Literals.{whole_text, or_bad, whole_value, truth_value, quoted_value, literal_value};
 
 use chv_ast::{Literal, Refusal};
 use chv_catalog::StatementFault;
@@ -11,7 +11,7 @@ use chv_types::{MAX_TEXT, Scalar, TextFault, Value, parse_text};
 use std::alloc::Global;
 
 /// The value that a literal writes in a column of a kind.
-#[tactic(auto, unfolding(crate::specs::Literals::literal_value))]
+#[tactic(auto, unfolding(chv_query::specs::Literals::literal_value))]
 pub fn literal_value(
     alloc: Global,
     kind: Scalar,
@@ -62,7 +62,7 @@ fn minus_value(alloc: Global, kind: Scalar, digits: &[u8]) -> Result<Value, Stat
 }
 
 // The value of a number by its text.
-#[tactic(auto, using(crate::proofs::LiteralLemmas::whole_value_number))]
+#[tactic(auto, using(chv_query::proofs::LiteralLemmas::whole_value_number))]
 fn number_value(alloc: Global, kind: Scalar, text: &[u8]) -> Result<Value, StatementFault>
     requires number { kind ≢ Scalar.Text }
     ensures value { IfOk result (λ value. whole_value kind text.now ≡ Ok value) }
@@ -85,7 +85,7 @@ fn quoted_value(alloc: Global, kind: Scalar, text: &[u8]) -> Result<Value, State
 }
 
 // The value that a text writes.
-#[tactic(auto, using(crate::proofs::LiteralLemmas::value_of_kind))]
+#[tactic(auto, using(chv_query::proofs::LiteralLemmas::value_of_kind))]
 fn text_value(alloc: Global, kind: Scalar, text: &[u8]) -> Result<Value, StatementFault>
     ensures value { IfOk result (λ value. or_bad (value_of kind text.now) ≡ Ok value) }
     ensures kind { IfOk result (λ value. IsOfScalar kind value) }

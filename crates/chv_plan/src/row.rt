@@ -5,7 +5,7 @@ ghost use Rattle.chv_ast.specs.declared.refusal.Refusal.{Refusal};
 ghost use Rattle.chv_types.specs.Values.{IsPlain, default_of};
 ghost use Rattle.chv_block.specs.Spellings.{IsOf, AreOf};
 ghost use Rattle.chv_plan.specs.Places.{ArePlaces, written};
-ghost use Rattle.chv_plan.specs.Plans.{value_for, row_for};
+ghost use Rattle.chv_query.specs.Plans.{value_for, row_for};
 
 use crate::literal::literal_value;
 use chv_ast::{Literal, Refusal};

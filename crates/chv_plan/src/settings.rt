@@ -1,6 +1,6 @@
 // The settings of an INSERT.
 ghost use Rattle.std.specs.Prelude.{◌≡◌, ◌≤◌, Ok, Err, IfOk, IfErr};
-ghost use Rattle.chv_plan.specs.Plans.{is_long, setting_in, sizes_for};
+ghost use Rattle.chv_query.specs.Plans.{is_long, setting_in, sizes_for};
 
 use chv_ast::{Digits, Quoted, Refusal, Settings};
 use chv_block::Sizes;

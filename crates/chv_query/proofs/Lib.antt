@@ -1,8 +1,14 @@
+pub mod AcceptedLemmas
+pub mod ArrivalLemmas
 pub mod BoundLemmas
 pub mod CallLemmas
 pub mod CellLemmas
+pub mod DefinitionLemmas
 pub mod FeedLemmas
+pub mod JoinLemmas
 pub mod KeyLemmas
+pub mod LiteralLemmas
+pub mod LiteralRowLemmas
 pub mod NameLemmas
 pub mod OutputLemmas
 pub mod QueryLemmas

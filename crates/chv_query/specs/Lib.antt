@@ -1,7 +1,12 @@
+pub mod Accepted
+pub mod Arrivals
 pub mod Bound
 pub mod Calls
+pub mod Definitions
 pub mod Keys
+pub mod Literals
 pub mod Outputs
+pub mod Plans
 pub mod Queries
 pub mod Results
 pub mod Shapes

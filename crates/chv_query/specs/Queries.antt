@@ -6,6 +6,7 @@ use Rattle.chv_ast.specs.declared.refusal.Refusal.TheVariants.{UnknownColumn, Ty
 use Rattle.chv_ast.specs.declared.statement.Order.{Order}
 use Rattle.chv_ast.specs.declared.statement.Select.{Select}
 use Rattle.chv_catalog.specs.Checks.{is_state}
+use Rattle.chv_catalog.specs.Schemas.{Catalog}
 use Rattle.chv_query.specs.Tables.{table_of}
 use Rattle.chv_catalog.specs.declared.table_def.TableDef.{TableDef}
 use Rattle.chv_types.specs.Names.{place_of}
@@ -69,8 +70,8 @@ asked_of table def select =
     })))))
 
 -- what a query asks, or the first check that refuses it
-unfoldable pub asked : List TableDef → Select → Result Asked Refusal
-asked tables select = and_then (table_of tables select.table) (λ found. asked_of found.0 found.1 select)
+unfoldable pub asked : Catalog → Select → Result Asked Refusal
+asked catalog select = and_then (table_of catalog select.table) (λ found. asked_of found.0 found.1 select)
 
 -- the values of its terms over a row that passes
 abbrev pub made_of : Asked → List Value → Option (List (List Value))
@@ -87,3 +88,7 @@ divides query = division_in (made_of query)
 -- the first of these rows on which a query divides by zero
 abbrev pub first_division : Asked → List (List Value) → Option ℕ
 first_division query = first_division_in (made_of query)
+
+-- the form of a query is known not to see which rows of its table merges have made one; so far it is of none
+abbrev pub is_merge_blind : Asked → Bool
+is_merge_blind query = false

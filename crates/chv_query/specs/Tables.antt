@@ -2,13 +2,13 @@
 use Rattle.std.specs.Prelude.{ℕ, ◌+◌, List, slice_get, Result, Ok}
 use Rattle.chv_ast.specs.declared.refusal.Refusal.{Refusal}
 use Rattle.chv_ast.specs.declared.refusal.Refusal.TheVariants.{UnknownTable}
-use Rattle.chv_catalog.specs.Schemas.{names_of}
+use Rattle.chv_catalog.specs.Schemas.{Catalog, table_names}
 use Rattle.chv_catalog.specs.declared.table_def.TableDef.{TableDef}
 use Rattle.chv_types.specs.Names.{place_of}
 use Rattle.chv_types.specs.Steps.{and_then, or_refuse}
 
 -- the table of a name, and its number, counted from 1
-abbrev pub table_of : List TableDef → List ℕ → Result (ℕ × TableDef) Refusal
-table_of tables name =
-    and_then (or_refuse UnknownTable (place_of name (names_of tables))) (λ place.
-    and_then (or_refuse UnknownTable (slice_get tables place)) (λ def. Ok (place + 1, def)))
+abbrev pub table_of : Catalog → List ℕ → Result (ℕ × TableDef) Refusal
+table_of catalog name =
+    and_then (or_refuse UnknownTable (place_of name (table_names catalog.tables))) (λ place.
+    and_then (or_refuse UnknownTable (slice_get catalog.tables place)) (λ def. Ok (place + 1, def)))

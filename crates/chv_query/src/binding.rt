@@ -13,7 +13,7 @@ use std::alloc::Global;
 /// The query of a SELECT, or the first check that refuses it: FROM, WHERE, GROUP BY, the items, ORDER BY and LIMIT, each from
 /// left to right.
 pub fn bind(alloc: Global, schema: &Schema, select: &Select) -> Result<Query, StatementFault>
-    ensures { AnswersAs IsQuery (asked schema.now.tables select.now) result }
+    ensures { AnswersAs IsQuery (asked schema.now.catalog select.now) result }
 {
     match schema.table(select.table.as_slice()) {
         Some(table) => bind_to(alloc, table, schema.table_def(table), select),

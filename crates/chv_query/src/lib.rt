@@ -1,4 +1,5 @@
-//! Queries: what a SELECT asks of a table, bound to its columns, and what it gives over rows.
+//! What statements mean, as definitions; and queries: what a SELECT asks of a table, bound to its columns, and what it gives
+//! over rows.
 #![tactic(auto)]
 
 mod binding;

@@ -1,5 +1,7 @@
 // Queries.
 ghost use Rattle.std.specs.Prelude.{◌≡◌};
+ghost use Rattle.chv_query.specs.Bound.{IsQuery};
+ghost use Rattle.chv_query.specs.Queries.{Asked, is_merge_blind};
 
 use crate::Groups;
 use chv_expr::Bound;
@@ -54,5 +56,13 @@ impl Query {
         ensures { result ≡ self.now.limit }
     {
         self.limit
+    }
+
+    /// Whether the form of what is asked is known not to see which rows of its table merges have made one. So far it is of no
+    /// query.
+    pub fn merge_blind(&self) -> bool
+        ensures { (asked : Asked) → IsQuery self.now asked → result ≡ is_merge_blind asked }
+    {
+        false
     }
 }

@@ -1,5 +1,5 @@
 use Rattle.std.proofs.Common.{◌≡◌, drop}
-use Rattle.chv_define.specs.Definitions.{columns_of}
+use Rattle.chv_query.specs.Definitions.{columns_of}
 use Rattle.chv_define.proofs.ListLemmas.{behind}
 use Rattle.chv_define.proofs.kinds.columns_of.Given as goal
 

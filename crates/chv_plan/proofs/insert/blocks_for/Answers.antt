@@ -1,6 +1,6 @@
 use Rattle.std.proofs.Common.{◌≡◌, Ok, Err, sym, ◌∙◌, arith}
 use Rattle.std.proofs.lemmas.Result.{err_from_is_err_and}
-use Rattle.chv_plan.specs.Plans.{row_for}
+use Rattle.chv_query.specs.Plans.{row_for}
 use Rattle.chv_plan.proofs.FeedLemmas.{AreAll, AreWritten-more, AreWritten-refused, AreWritten-all}
 use Rattle.chv_plan.proofs.insert.blocks_for.Goals as goal
 

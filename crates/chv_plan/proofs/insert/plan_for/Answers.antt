@@ -2,9 +2,9 @@ use Rattle.std.proofs.Common.{◌≡◌, ◌≤◌, length, Ok, Err, sym, ◌∙
 use Rattle.std.proofs.lemmas.Result.{err_from_is_err_and}
 use Rattle.chv_catalog.specs.Schemas.{kinds_of}
 use Rattle.chv_plan.specs.Places.{filled_places}
-use Rattle.chv_plan.specs.Plans.{sizes_for}
+use Rattle.chv_query.specs.Plans.{sizes_for}
 use Rattle.chv_plan.proofs.HeldLemmas.{kinds-AreBlocks}
-use Rattle.chv_plan.proofs.JoinLemmas.{length-AreBlocks}
+use Rattle.chv_query.proofs.JoinLemmas.{length-AreBlocks}
 use Rattle.chv_plan.proofs.PlanLemmas.{Brings-blocks, sizes_refused_for}
 use Rattle.chv_plan.proofs.insert.plan_for.Goals as goal
 

@@ -1,32 +1,32 @@
 use Rattle.std.proofs.Common.{◌≡◌, ◌≤◌, ◌+◌, Some, Ok, option_map, sym, ◌∙◌}
 use Rattle.std.proofs.lemmas.Result.{IfOk-weaker}
 use Rattle.chv_query.specs.Tables.{table_of}
-use Rattle.chv_catalog.specs.Schemas.{names_of}
+use Rattle.chv_catalog.specs.Schemas.{table_names}
 use Rattle.chv_types.specs.Names.{place_of}
 use Rattle.chv_plan.proofs.PlanLemmas.{found_table, planned_there, delivered, one_table-Brings, count-Brings}
 use Rattle.chv_plan.proofs.insert.plan_insert.Goals.{After-table_def}
 use Rattle.chv_plan.proofs.insert.plan_insert.Goals as goal
 
 -- the table that was found stands at its number
-found : (c : After-table_def) → (table_of c.args.schema.now.tables c.args.insert.now.table ≡ Ok (c.in-Some.number, c.table_def.result.now)) × (1 ≤ c.in-Some.number)
+found : (c : After-table_def) → (table_of c.args.schema.now.catalog c.args.insert.now.table ≡ Ok (c.in-Some.number, c.table_def.result.now)) × (1 ≤ c.in-Some.number)
 found c =
-    let is : Some c.in-Some.number ≡ option_map (λ place. place + 1) (place_of c.args.insert.now.table (names_of c.args.schema.now.tables)) =
+    let is : Some c.in-Some.number ≡ option_map (λ place. place + 1) (place_of c.args.insert.now.table (table_names c.args.schema.now.catalog.tables)) =
     sym c.in-Some.is ∙ (rw c.as_slice.ensures at c.table.ensures) in
-    found_table c.args.schema.now.tables c.args.insert.now.table c.in-Some.number c.table_def.result.now is c.table_def.ensures
+    found_table c.args.schema.now.catalog c.args.insert.now.table c.in-Some.number c.table_def.result.now is c.table_def.ensures
 
 pub returns-in-Some-clause-planned : goal.returns-in-Some-clause-planned
 returns-in-Some-clause-planned c =
     let stands = found (goal.at.returns-in-Some-clause-planned c).After-table_def in
     IfOk-weaker c.plan_for.result _ _
     (λ held brings.
-    delivered c.args.schema.now.tables c.args.insert.now c.in-Some.number c.table_def.result.now held.deliveries _ c.table_def.ensures stands.1
-    (planned_there c.args.schema.now.tables c.args.insert.now c.in-Some.number c.table_def.result.now stands.0) brings)
+    delivered c.args.schema.now.catalog.tables c.args.insert.now c.in-Some.number c.table_def.result.now held.deliveries _ c.table_def.ensures stands.1
+    (planned_there c.args.schema.now.catalog c.args.insert.now c.in-Some.number c.table_def.result.now stands.0) brings)
     c.plan_for.ensures.planned
 
 pub returns-in-Some-clause-refused : goal.returns-in-Some-clause-refused
 returns-in-Some-clause-refused c =
     let stands = found (goal.at.returns-in-Some-clause-refused c).After-table_def in
-    rw (planned_there c.args.schema.now.tables c.args.insert.now c.in-Some.number c.table_def.result.now stands.0) c.plan_for.ensures.refused
+    rw (planned_there c.args.schema.now.catalog c.args.insert.now c.in-Some.number c.table_def.result.now stands.0) c.plan_for.ensures.refused
 
 pub returns-in-Some-clause-one_table : goal.returns-in-Some-clause-one_table
 returns-in-Some-clause-one_table c =

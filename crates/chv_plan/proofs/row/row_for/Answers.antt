@@ -1,5 +1,6 @@
 use Rattle.std.proofs.Common.{arith}
-use Rattle.chv_plan.proofs.RowLemmas.{defaults_are, row_for-written}
+use Rattle.chv_query.proofs.LiteralRowLemmas.{defaults_are}
+use Rattle.chv_plan.proofs.RowLemmas.{row_for-written}
 use Rattle.chv_plan.proofs.row.row_for.Goals as goal
 
 pub written_row-requires-clause-kinds : goal.written_row-requires-clause-kinds

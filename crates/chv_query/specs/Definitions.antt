@@ -13,7 +13,7 @@ use Rattle.chv_ast.specs.declared.statement.KindWord.{KindWord}
 use Rattle.chv_ast.specs.declared.statement.KindWord.TheVariants as kind_word
 use Rattle.chv_ast.specs.declared.statement.Statement.TheVariants as statement
 use Rattle.chv_catalog.specs.Checks.{has_repeat, is_state, is_unknown, number_within, places_of}
-use Rattle.chv_catalog.specs.Schemas.{names_of}
+use Rattle.chv_catalog.specs.Schemas.{Catalog, definitions_in, names_of}
 use Rattle.chv_catalog.specs.declared.table_def.TableDef.{TableDef}
 use Rattle.chv_print.specs.StatementTexts.{statement_text}
 use Rattle.chv_types.specs.Aggregates.{agg_of, result_of}
@@ -76,6 +76,10 @@ abbrev pub IsPlainWord : KindWord → Type 0
 IsPlainWord (kind_word.Plain name) = Unit {0}
 IsPlainWord (kind_word.Agg function arg) = ⊥
 
+-- the names of columns
+abbrev pub column_names : List ColumnDef → List (List ℕ)
+column_names columns = map (λ column. column.name) columns
+
 -- the columns that are written, or the first refusal of one
 abbrev pub columns_of : List ColumnDef → Result (List Column) Refusal
 columns_of [] = Ok []
@@ -105,12 +109,17 @@ abbrev pub window_of : Option (List ℕ) → Result ℕ Refusal
 window_of None = Ok 0
 window_of (Some digits) = number_within 0 100000 digits
 
--- the table that a statement defines beside those that stand, or the first check that refuses it
-unfoldable pub defined : List TableDef → CreateTable → Result TableDef Refusal
-defined tables made =
-    let names = map (λ column. column.name) made.columns in
-    refuse_if (is_some (place_of made.name (names_of tables))) NameTaken
-    (refuse_if (not (nat_lt (length tables) 256)) LimitPassed
+-- the table that a statement makes of these columns, with so many ids
+abbrev pub table_with : CreateTable → List Column → ℕ → TableDef
+table_with made columns window =
+    record { name = made.name; columns = columns; engine = engine_of made.engine; key = places_of (column_names made.columns) made.key; window = window }
+
+-- the table that a statement defines beside what is defined, or the first check that refuses it
+unfoldable pub defined : Catalog → CreateTable → Result TableDef Refusal
+defined catalog made =
+    let names = column_names made.columns in
+    refuse_if (is_some (place_of made.name (names_of catalog))) NameTaken
+    (refuse_if (not (nat_lt (definitions_in catalog) 256)) LimitPassed
     (refuse_if (nat_lt 64 (length made.columns)) LimitPassed
     (refuse_if (has_repeat names) NameTaken
     (and_then (columns_of made.columns) (λ columns.
@@ -120,4 +129,4 @@ defined tables made =
     (refuse_if (is_aggregating made.engine && has_loose made.key columns) ColumnNotMergeable
     (and_then (window_of made.window) (λ window.
     refuse_if (nat_lt 1048576 (length (statement_text (statement.CreateTable made)))) LimitPassed
-    (Ok (record { name = made.name; columns = columns; engine = engine_of made.engine; key = places_of names made.key; window = window }))))))))))))
+    (Ok (table_with made columns window))))))))))))

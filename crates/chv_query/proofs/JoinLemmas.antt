@@ -8,8 +8,8 @@ use Rattle.chv_block.specs.Spellings.{AllAreOf}
 use Rattle.chv_block.specs.declared.squasher.Sizes.{Sizes}
 use Rattle.chv_types.specs.declared.kind.Kind.{Kind}
 use Rattle.chv_types.specs.declared.value.Value.{Value}
-use Rattle.chv_plan.specs.Blocks.{AreBlocks}
-use Rattle.chv_plan.specs.Plans.{sized_rows}
+use Rattle.chv_query.specs.Plans.{AreBlocks}
+use Rattle.chv_query.specs.Plans.{sized_rows}
 
 rows_of-sized_rows : (kinds : List Kind) (rows : List (List Value)) → rows_of (sized_rows kinds rows) ≡ rows
 rows_of-sized_rows kinds [] = refl

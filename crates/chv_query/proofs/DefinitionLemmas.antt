@@ -1,18 +1,18 @@
 -- What a definition says.
-use Rattle.std.proofs.Common.{◌≡◌, ◌∙◌, ◌<◌, ◌≤◌, ℕ, Bool, true, false, not, nat_lt, List, [], ◌∷◌, length, map, Option, Some, None, is_some, Result, Ok, Err, refl, sym, subst, arith}
-use Rattle.std.specs.List.{All}
+use Rattle.std.proofs.Common.{◌≡◌, ◌<◌, ◌≤◌, ◌&&◌, Bool, true, false, not, nat_lt, List, [], ◌∷◌, length, map, Option, Some, None, is_some, Ok, refl, subst, arith}
+use Rattle.std.specs.List.{All, list_any}
 use Rattle.std.proofs.lemmas.Bool.{ltb-true, ltb-false}
 use Rattle.std.proofs.lemmas.List.Elements.{All-cons, All-head, All-nil, All-tail}
 use Rattle.chv_ast.specs.Formed.{EachOfSome, FormedColumn, FormedTable}
-use Rattle.chv_ast.specs.declared.refusal.Refusal.{Refusal}
-use Rattle.chv_ast.specs.declared.refusal.Refusal.TheVariants.{LimitPassed, NameTaken, TypeMismatch}
+use Rattle.chv_ast.specs.declared.refusal.Refusal.TheVariants.{ColumnNotMergeable, LimitPassed, NameTaken, TypeMismatch, UnknownColumn}
 use Rattle.chv_ast.specs.declared.statement.ColumnDef.{ColumnDef}
 use Rattle.chv_ast.specs.declared.statement.CreateTable.{CreateTable}
 use Rattle.chv_ast.specs.declared.statement.KindWord.{KindWord}
 use Rattle.chv_ast.specs.declared.statement.KindWord.TheVariants as kind_word
 use Rattle.chv_ast.specs.declared.statement.Statement.TheVariants as statement
 use Rattle.chv_catalog.proofs.StepLemmas.{and_then-Ok, refuse_if-Ok}
-use Rattle.chv_catalog.specs.Schemas.{kinds_of, names_of}
+use Rattle.chv_catalog.specs.Checks.{has_repeat, is_unknown}
+use Rattle.chv_catalog.specs.Schemas.{Catalog, definitions_in, kinds_of, names_of}
 use Rattle.chv_catalog.specs.declared.table_def.TableDef.{TableDef}
 use Rattle.chv_print.specs.StatementTexts.{statement_text}
 use Rattle.chv_types.specs.Names.{place_of}
@@ -21,9 +21,7 @@ use Rattle.chv_types.specs.Values.{IsPlain}
 use Rattle.chv_types.specs.declared.kind.Kind.{Kind}
 use Rattle.chv_types.specs.declared.kind.Kind.TheVariants as kinds
 use Rattle.chv_types.specs.declared.table.Column.{Column}
-use Rattle.chv_define.proofs.Steps.{defined-steps, table_with}
-use Rattle.chv_define.specs.Checks.{checked_key, checked_names, checked_text}
-use Rattle.chv_define.specs.Definitions.{IsPlainWord, columns_of, defined, kind_of, scalar_of, window_of}
+use Rattle.chv_query.specs.Definitions.{IsPlainWord, column_names, columns_of, defined, has_loose, has_state, is_aggregating, kind_of, scalar_of, table_with, window_of}
 
 none_there : {A : Type 0} (o : Option A) → is_some o ≡ false → o ≡ None
 none_there None h = refl
@@ -33,10 +31,10 @@ negated : (b : Bool) → not b ≡ false → b ≡ true
 negated true h = refl
 negated false h = cc
 
--- what holds of each definition that a statement makes beside those that stand
-pub record Passed (tables : List TableDef) (made : CreateTable) (def : TableDef) : Type 0 where
-  pub free : place_of def.name (names_of tables) ≡ None
-  pub room : length tables < 256
+-- what holds of each definition that a statement makes beside what is defined
+pub record Passed (catalog : Catalog) (made : CreateTable) (def : TableDef) : Type 0 where
+  pub free : place_of def.name (names_of catalog) ≡ None
+  pub room : definitions_in catalog < 256
   pub some : FormedTable made → 1 ≤ length def.columns
   pub few : length def.columns ≤ 64
   pub short : length (statement_text (statement.CreateTable made)) ≤ 1048576
@@ -76,42 +74,36 @@ some_columns : (columns : List ColumnDef) → EachOfSome FormedColumn columns �
 some_columns [] formed = absurd formed
 some_columns (column ∷ columns) formed = omega arith
 
-module _ (tables : List TableDef) (made : CreateTable) where
-  names_passed : checked_names tables made.name made.columns ≡ Ok tt → (place_of made.name (names_of tables) ≡ None) × (length tables < 256) × (length made.columns ≤ 64)
-  unfolding checked_names
-  names_passed h =
-      let free = refuse_if-Ok (is_some (place_of made.name (names_of tables))) NameTaken _ tt h in
-      let room = refuse_if-Ok (not (nat_lt (length tables) 256)) LimitPassed _ tt free.1 in
-      let few = refuse_if-Ok (nat_lt 64 (length made.columns)) LimitPassed _ tt room.1 in
-      (none_there (place_of made.name (names_of tables)) free.0, ltb-true (length tables) 256 (negated (nat_lt (length tables) 256) room.0), ltb-false 64 (length made.columns) few.0)
-
-  text_passed : checked_text made ≡ Ok tt → length (statement_text (statement.CreateTable made)) ≤ 1048576
-  unfolding checked_text
-  text_passed h =
-      let text = statement_text (statement.CreateTable made) in
-      ltb-false 1048576 (length text) (refuse_if-Ok (nat_lt 1048576 (length text)) LimitPassed (Ok tt) tt h).0
-
+module _ (catalog : Catalog) (made : CreateTable) where
   -- what a statement defines has passed the checks
-  pub passed : (def : TableDef) → defined tables made ≡ Ok def → Passed tables made def
+  pub passed : (def : TableDef) → defined catalog made ≡ Ok def → Passed catalog made def
+  unfolding defined
   passed def h =
-      let names = and_then-Ok (checked_names tables made.name made.columns) _ def (sym (defined-steps tables made) ∙ h) in
-      let columns = and_then-Ok (columns_of made.columns) _ def names.2 in
-      let key = and_then-Ok (checked_key made.columns columns.0 made.engine made.key) _ def columns.2 in
-      let window = and_then-Ok (window_of made.window) _ def key.2 in
-      let text = and_then-Ok (checked_text made) _ def window.2 in
-      let fields = names_passed names.1 in
-      let whole : table_with made columns.0 window.0 ≡ def = cc text.2 in
+      let text = statement_text (statement.CreateTable made) in
+      let free = refuse_if-Ok (is_some (place_of made.name (names_of catalog))) NameTaken _ def h in
+      let room = refuse_if-Ok (not (nat_lt (definitions_in catalog) 256)) LimitPassed _ def free.1 in
+      let few = refuse_if-Ok (nat_lt 64 (length made.columns)) LimitPassed _ def room.1 in
+      let once = refuse_if-Ok (has_repeat (column_names made.columns)) NameTaken _ def few.1 in
+      let columns = and_then-Ok (columns_of made.columns) _ def once.1 in
+      let known = refuse_if-Ok (list_any (is_unknown (column_names made.columns)) made.key) UnknownColumn _ def columns.2 in
+      let key_once = refuse_if-Ok (has_repeat made.key) NameTaken _ def known.1 in
+      let plain_key = refuse_if-Ok (has_state made.key columns.0) TypeMismatch _ def key_once.1 in
+      let merged = refuse_if-Ok (is_aggregating made.engine && has_loose made.key columns.0) ColumnNotMergeable _ def plain_key.1 in
+      let window = and_then-Ok (window_of made.window) _ def merged.1 in
+      let short = refuse_if-Ok (nat_lt 1048576 (length text)) LimitPassed _ def window.2 in
+      let whole : table_with made columns.0 window.0 ≡ def = cc short.1 in
       let many = length-columns_of made.columns columns.0 columns.1 in
-      subst (Passed tables made) whole
+      let most = ltb-false 64 (length made.columns) few.0 in
+      subst (Passed catalog made) whole
       (record {
-        free = fields.0;
-        room = fields.1;
+        free = none_there (place_of made.name (names_of catalog)) free.0;
+        room = ltb-true (definitions_in catalog) 256 (negated (nat_lt (definitions_in catalog) 256) room.0);
         some = λ formed. omega (arith, some_columns made.columns formed.1);
-        few = omega arith;
-        short = text_passed text.1;
+        few = omega (arith, many, most);
+        short = ltb-false 1048576 (length text) short.0;
         columns_are = columns.1;
       })
 
   -- words of plain kinds alone make plain kinds alone
-  pub plain : (def : TableDef) → defined tables made ≡ Ok def → All (λ (column : ColumnDef). IsPlainWord column.kind) made.columns → All IsPlain (kinds_of def)
+  pub plain : (def : TableDef) → defined catalog made ≡ Ok def → All (λ (column : ColumnDef). IsPlainWord column.kind) made.columns → All IsPlain (kinds_of def)
   plain def h words = plain-columns_of made.columns def.columns words (passed def h).columns_are

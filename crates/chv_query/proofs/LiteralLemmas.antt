@@ -9,7 +9,7 @@ use Rattle.chv_types.specs.declared.kind.Scalar.TheVariants.{UInt8, UInt16, UInt
 use Rattle.chv_types.specs.declared.value.Value.{Value}
 use Rattle.chv_types.specs.declared.value.Value.TheVariants as value
 use Rattle.chv_types.specs.Fits.{IsOfScalar}
-use Rattle.chv_plan.specs.Literals.{or_bad, whole_value}
+use Rattle.chv_query.specs.Literals.{or_bad, whole_value}
 
 -- what stands behind a test is given where it holds
 kept : {A : Type 0} (test : Bool) (a b : A) → cond test (Some a) None ≡ Some b → (test ≡ true) × (a ≡ b)

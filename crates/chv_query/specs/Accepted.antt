@@ -7,8 +7,9 @@ use Rattle.chv_ast.specs.declared.statement.KindWord.{KindWord}
 use Rattle.chv_ast.specs.declared.statement.KindWord.TheVariants as kind
 use Rattle.chv_ast.specs.declared.statement.Statement.{Statement}
 use Rattle.chv_ast.specs.declared.statement.Statement.TheVariants as statement
+use Rattle.chv_catalog.specs.Schemas.{Catalog, no_definitions}
 use Rattle.chv_catalog.specs.declared.table_def.TableDef.{TableDef}
-use Rattle.chv_define.specs.Definitions.{defined, is_aggregating}
+use Rattle.chv_query.specs.Definitions.{defined, is_aggregating}
 use Rattle.chv_print.specs.StatementTexts.{statement_text}
 
 -- what a CREATE statement defines
@@ -28,6 +29,14 @@ tables_in (Table def) = def ∷ []
 abbrev pub tables_of : List Accepted → List TableDef
 tables_of schema = flat_map (λ (accepted : Accepted). tables_in accepted.definition) schema
 
+-- what a schema defines
+abbrev pub catalog_of : List Accepted → Catalog
+catalog_of schema = record { tables = tables_of schema; views = [] }
+
+-- a catalog with a definition more, behind the others
+abbrev pub with_definition : Catalog → Definition → Catalog
+with_definition catalog definition = record catalog { tables = catalog.tables ++ tables_in definition }
+
 -- the kind of a column is written by one name
 abbrev pub is_plain : KindWord → Bool
 is_plain (kind.Plain name) = true
@@ -42,25 +51,25 @@ abbrev pub is_built_create : Statement → Bool
 is_built_create (statement.CreateTable made) = is_built_table made
 is_built_create other = false
 
--- no check refuses a statement beside these tables, and this is what it defines
-abbrev pub Defines : List TableDef → Statement → Definition → Type 0
-Defines tables (statement.CreateTable made) (Table def) = defined tables made ≡ Ok def
-Defines tables other (Table def) = ⊥
+-- no check refuses a statement beside what is defined, and this is what it defines
+abbrev pub Defines : Catalog → Statement → Definition → Type 0
+Defines catalog (statement.CreateTable made) (Table def) = defined catalog made ≡ Ok def
+Defines catalog other (Table def) = ⊥
 
--- a statement is accepted beside the tables that stand
-pub record IsAccepted (tables : List TableDef) (accepted : Accepted) : Type 0 where
+-- a statement is accepted beside what is defined
+pub record IsAccepted (catalog : Catalog) (accepted : Accepted) : Type 0 where
   pub formed : WellFormed accepted.statement
-  pub defines : Defines tables accepted.statement accepted.definition
+  pub defines : Defines catalog accepted.statement accepted.definition
 
--- statements are accepted one after the other, beside the tables that stand
-abbrev pub AreAccepted : List TableDef → List Accepted → Type 0
-AreAccepted tables [] = Unit {0}
-AreAccepted tables (accepted ∷ schema) =
-    (is_built_create accepted.statement ≡ true) × IsAccepted tables accepted × AreAccepted (tables ++ tables_in accepted.definition) schema
+-- statements are accepted one after the other, beside what is defined
+abbrev pub AreAccepted : Catalog → List Accepted → Type 0
+AreAccepted catalog [] = Unit {0}
+AreAccepted catalog (accepted ∷ schema) =
+    (is_built_create accepted.statement ≡ true) × IsAccepted catalog accepted × AreAccepted (with_definition catalog accepted.definition) schema
 
 -- a schema: each of its statements is built, and accepted over those before it
 abbrev pub IsSchema : List Accepted → Type 0
-IsSchema schema = AreAccepted [] schema
+IsSchema schema = AreAccepted no_definitions schema
 
 -- a catalog's payload is the canonical text of an accepted statement
 abbrev pub catalog_payload : Accepted → List ℕ

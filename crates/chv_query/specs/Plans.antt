@@ -1,5 +1,5 @@
 -- What an INSERT brings: docs/SQL.md, "INSERT".
-use Rattle.std.specs.Prelude.{ℕ, Bool, false, ◌≡◌, ◌+◌, ◌-◌, ◌≤◌, not, nat_eq, nat_lt, List, [], ◌∷◌, length, map, if◌then◌else◌, Option, None, Some, Result, Ok, Err, slice_get}
+use Rattle.std.specs.Prelude.{ℕ, Bool, false, ◌+◌, ◌-◌, ◌≤◌, not, nat_eq, nat_lt, List, [], ◌∷◌, length, map, if◌then◌else◌, Option, None, Some, Result, Ok, Err, slice_get}
 use Rattle.std.specs.List.{filter_map, list_any}
 use Rattle.chv_ast.specs.declared.expr.Literal.{Literal}
 use Rattle.chv_ast.specs.declared.refusal.Refusal.{Refusal}
@@ -8,23 +8,21 @@ use Rattle.chv_ast.specs.declared.statement.Insert.{Insert}
 use Rattle.chv_ast.specs.declared.statement.Settings.{Settings}
 use Rattle.chv_catalog.specs.Checks.{has_repeat, is_unknown, is_state, number_within, places_of}
 use Rattle.chv_query.specs.Tables.{table_of}
-use Rattle.chv_catalog.specs.Schemas.{columns_of, kinds_of}
+use Rattle.chv_catalog.specs.Schemas.{Catalog, columns_of, kinds_of}
 use Rattle.chv_catalog.specs.declared.table_def.TableDef.{TableDef}
 use Rattle.chv_block.specs.Blocks.{Sized, blocks_of}
-use Rattle.chv_block.specs.Spellings.{row_spelling, block_spelling}
+use Rattle.chv_block.specs.Spellings.{AllAreOf, row_spelling, block_spelling}
 use Rattle.chv_block.specs.declared.squasher.Sizes.{Sizes}
 use Rattle.chv_part.specs.Books.{MAX_ROWS}
 use Rattle.chv_part.specs.Forms.{form_of}
-use Rattle.chv_part.specs.Parts.{part_file}
 use Rattle.chv_sip.specs.BlockIds.{SourceKey, Content, Token}
 use Rattle.chv_types.specs.Steps.{refuse_if, and_then}
 use Rattle.chv_types.specs.Values.{default_of}
 use Rattle.chv_types.specs.declared.kind.Kind.{Kind}
 use Rattle.chv_types.specs.declared.kind.Kind.TheVariants as kind
 use Rattle.chv_types.specs.declared.value.Value.{Value}
-use Rattle.chv_plan.specs.Arrivals.{Arrival, arrival_of, IsArrival}
-use Rattle.chv_plan.specs.Literals.{literal_value}
-use Rattle.chv_plan.specs.declared.delivery.Delivery.{Delivery as Held}
+use Rattle.chv_query.specs.Arrivals.{Arrival, arrival_of}
+use Rattle.chv_query.specs.Literals.{literal_value}
 
 -- one block to one table
 pub record Delivery : Type 0 where
@@ -64,6 +62,12 @@ deliveries_of table def token number (block ∷ blocks) =
 -- rows, each with the number of its bytes
 abbrev pub sized_rows : List Kind → List (List Value) → List Sized
 sized_rows kinds = map (λ row. record { row = row; bytes = length (row_spelling kinds row) })
+
+-- blocks of one row or more, of these kinds, with no more rows together than this
+abbrev pub AreBlocks : List Kind → ℕ → List (List (List Value)) → Type 0
+AreBlocks kinds most [] = Unit {0}
+AreBlocks kinds most (block ∷ blocks) =
+    AllAreOf kinds block × (1 ≤ length block) × (length block ≤ most) × AreBlocks kinds (most - length block) blocks
 
 -- the names of the columns that are filled: those that are listed, or all
 abbrev pub filled_names : List (List ℕ) → Option (List (List ℕ)) → List (List ℕ)
@@ -124,23 +128,5 @@ planned_for table def insert =
     Ok (deliveries_of table def insert.settings.token 0 (blocks_of sizes (sized_rows (kinds_of def) written))))))))))
 
 -- what an INSERT brings, in order, or the first check that refuses it
-unfoldable pub planned : List TableDef → Insert → Result (List Delivery) Refusal
-planned tables insert = and_then (table_of tables insert.table) (λ found. planned_for found.0 found.1 insert)
-
--- what is held of a delivery is that of an entry of its table
-pub record Delivers (tables : List TableDef) (held : Held) (delivery : Delivery) : Type 0 where
-  pub def : TableDef
-  pub stands : slice_get tables (delivery.table - 1) ≡ Some def
-  pub numbered : 1 ≤ delivery.table
-  pub table : held.table ≡ delivery.table
-  pub lawful : IsArrival (form_of def) delivery.entry
-  pub id : held.id ≡ delivery.entry.id
-  pub rows : held.rows ≡ length delivery.entry.rows
-  pub encoded : held.encoded ≡ part_file (kinds_of def) delivery.entry.rows
-
--- what is held of a plan is that of its deliveries, in order
-abbrev pub DeliversAll : List TableDef → List Held → List Delivery → Type 0
-DeliversAll tables [] [] = Unit {0}
-DeliversAll tables [] (delivery ∷ plan) = ⊥
-DeliversAll tables (held ∷ rest) [] = ⊥
-DeliversAll tables (held ∷ rest) (delivery ∷ plan) = Delivers tables held delivery × DeliversAll tables rest plan
+unfoldable pub planned : Catalog → Insert → Result (List Delivery) Refusal
+planned catalog insert = and_then (table_of catalog insert.table) (λ found. planned_for found.0 found.1 insert)
