@@ -1,5 +1,5 @@
 -- What a query asks, or the first check that refuses it: docs/SQL.md, "SELECT".
-use Rattle.std.specs.Prelude.{ℕ, Bool, List, [], ◌∷◌, map, slice_get, Option, None, Some, Result, Ok}
+use Rattle.std.specs.Prelude.{ℕ, Bool, false, List, [], ◌∷◌, map, slice_get, Option, None, Some, Result, Ok}
 use Rattle.std.specs.Option.{option_map}
 use Rattle.chv_ast.specs.declared.refusal.Refusal.{Refusal}
 use Rattle.chv_ast.specs.declared.refusal.Refusal.TheVariants.{UnknownColumn, TypeMismatch, BadLiteral}
