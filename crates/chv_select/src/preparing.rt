@@ -26,7 +26,7 @@ impl Prepared {
 
 /// Prepares a SELECT, or answers the first check that refuses it. It reads no row.
 pub fn prepare(alloc: Global, schema: &Schema, select: &Select) -> Result<Prepared, StatementFault>
-    ensures { AnswersAs IsPrepared (asked schema.now.tables select.now) result }
+    ensures { AnswersAs IsPrepared (asked schema.now.catalog select.now) result }
 {
     let query = bind(alloc, schema, select)?;
     Ok(Prepared { query })
