@@ -8,7 +8,9 @@ use Rattle.chv_ast.specs.declared.refusal.Refusal.TheVariants.{UnknownTable, Unk
 use Rattle.chv_ast.specs.declared.statement.Insert.{Insert}
 use Rattle.chv_ast.specs.declared.statement.Select.{Select}
 use Rattle.chv_catalog.specs.Checks.{has_repeat, is_unknown, is_state, places_of}
-use Rattle.chv_query.specs.Queries.{Asked, asked, asked_of, filter_of, limit_of, outputs_of, sorts_of, columns_of as shown_columns}
+use Rattle.chv_query.specs.Outputs.{filter_of}
+use Rattle.chv_query.specs.Queries.{Asked, asked, asked_of, limit_of, sorts_of}
+use Rattle.chv_query.specs.Shapes.{shape_of}
 use Rattle.chv_query.specs.Tables.{table_of}
 use Rattle.chv_catalog.specs.Schemas.{Catalog, columns_of, kinds_of, table_names}
 use Rattle.chv_catalog.specs.declared.table_def.TableDef.{TableDef}
@@ -152,8 +154,8 @@ IsOf table def query = (query.table ≡ table) × (query.def ≡ def)
 asked_of-table : (table : ℕ) (def : TableDef) (select : Select) → IfOk (asked_of table def select) (IsOf table def)
 asked_of-table table def select =
     if_ok-rest (filter_of def.columns select.filter) _ (IsOf table def)
-    (λ filter. if_ok-rest (outputs_of def.columns select.items) _ (IsOf table def)
-    (λ outputs. if_ok-rest (sorts_of (shown_columns outputs) select.order) _ (IsOf table def)
+    (λ filter. if_ok-rest (shape_of def.columns select) _ (IsOf table def)
+    (λ shape. if_ok-rest (sorts_of shape.columns select.order) _ (IsOf table def)
     (λ order. if_ok-rest (limit_of select.limit) _ (IsOf table def) (λ limit. (refl, refl)))))
 
 asked_by : (catalog : Catalog) (select : Select) (query : Asked) (found : Result (ℕ × TableDef) Refusal) → table_of catalog select.table ≡ found

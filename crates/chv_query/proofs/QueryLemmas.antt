@@ -19,6 +19,7 @@ use Rattle.chv_query.specs.Results.{outcome, output_row, passes}
 use Rattle.chv_query.specs.Shapes.{Shape, shape_of}
 use Rattle.chv_query.specs.declared.query.Sort.{Sort}
 use Rattle.chv_query.specs.declared.shape.BoundShape.{BoundShape}
+use Rattle.chv_query.proofs.ShapeLemmas.{shape_of-single}
 use Rattle.chv_query.proofs.TakesLemmas.{made_takes, shape_of-feeds}
 
 passes-same : (columns : List Column) (bound : Option Bound) (filter : Option Term) (row : List Value) → IsFilter columns bound filter
@@ -102,5 +103,6 @@ asked_of-IsQuery table def select bound found filter shape order limit filtered 
         fits = fits;
         takes = λ row fit. rw (same row, are.grouping)
             (made_takes shape.grouping shape.terms (outcome filter shape.terms row) (shape_of-feeds def.columns select shape put) (fits row fit));
+        single = λ none. rw are.columns (shape_of-single def.columns select shape put none);
       },
     )

@@ -46,7 +46,8 @@ AreFed [] (term ∷ terms) = ⊥
 AreFed (call ∷ calls) [] = ⊥
 AreFed (call ∷ calls) (term ∷ terms) = IsFed call term × AreFed calls terms
 
-ok_same : {A : Type 0} {a b : A} → ◌≡◌ {A = Result A Refusal} (Ok a) (Ok b) → a ≡ b
+-- two answers that are the same have the same value
+pub ok_same : {A : Type 0} {a b : A} → ◌≡◌ {A = Result A Refusal} (Ok a) (Ok b) → a ≡ b
 ok_same is = cc is
 
 some_same : {A : Type 0} {a b : A} → Some a ≡ Some b → a ≡ b

@@ -114,7 +114,8 @@ abbrev pub TakesRow : Query → List Value → Type 0
 TakesRow query row = IfSome (made_by query row) (All (TakesValues query.grouping))
 
 -- a bound query is what is asked: of the same table, with the same grouping, columns, order and bound on rows; it makes of each
--- row the same; and of a row of the table's kinds rows of the terms' kinds, which its calls take
+-- row the same; and of a row of the table's kinds rows of the terms' kinds, which its calls take, and which are the columns'
+-- kinds where it does not group
 pub record IsQuery (query : Query) (asked : Asked) : Type 0 where
   pub table : query.table ≡ asked.table
   pub columns : query.columns ≡ asked.columns
@@ -125,3 +126,4 @@ pub record IsQuery (query : Query) (asked : Asked) : Type 0 where
   pub fits : (row : List Value) → FitAll (kinds_of asked.def) row
       → IfSome (made_of asked row) (All (FitAll (map (λ (term : Term). term.kind) asked.terms)))
   pub takes : (row : List Value) → FitAll (kinds_of asked.def) row → TakesRow query row
+  pub single : asked.grouping ≡ None → map (λ (column : Column). column.kind) query.columns ≡ map (λ (term : Term). term.kind) asked.terms

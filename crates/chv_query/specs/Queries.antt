@@ -89,7 +89,6 @@ divides query = division_in (made_of query)
 abbrev pub first_division : Asked → List (List Value) → Option ℕ
 first_division query = first_division_in (made_of query)
 
--- the form of a query cannot see which rows of its table merges have made one: a query without grouping shows each of them, and
--- none that groups is known to be so yet
+-- the form of a query is known not to see which rows of its table merges have made one; so far it is of none
 abbrev pub is_merge_blind : Asked → Bool
 is_merge_blind query = false

@@ -58,8 +58,8 @@ impl Query {
         self.limit
     }
 
-    /// Whether the form of what is asked cannot see which rows of its table merges have made one. A query without grouping
-    /// shows each of them, and none that groups is known to be so yet.
+    /// Whether the form of what is asked is known not to see which rows of its table merges have made one. So far it is of no
+    /// query.
     pub fn merge_blind(&self) -> bool
         ensures { (asked : Asked) → IsQuery self.now asked → result ≡ is_merge_blind asked }
     {
