@@ -4,9 +4,11 @@ use Rattle.std.specs.Prelude.{Result}
 use Rattle.std.proofs.Math.Path.{fun_ext}
 use Rattle.std.proofs.lemmas.Result.{IfOk-weaker}
 use Rattle.chv_ast.specs.declared.refusal.Refusal.{Refusal}
+use Rattle.chv_catalog.proofs.SchemaLemmas.{same_tables}
+use Rattle.chv_catalog.specs.Schemas.{Catalog}
 use Rattle.chv_catalog.specs.declared.table_def.TableDef.{TableDef}
 use Rattle.chv_commit.specs.Replays.{State, no_state}
-use Rattle.chv_define.specs.Accepted.{catalog_payload, tables_of}
+use Rattle.chv_query.specs.Accepted.{catalog_of, catalog_payload}
 use Rattle.chv_part.specs.Forms.{form_of}
 use Rattle.chv_part.specs.Standing.{FilesStand}
 use Rattle.chv_part.specs.declared.damage.Damage.{Damage}
@@ -69,8 +71,8 @@ entries_held store table = (state_of store table).entries
 -- the table of a number is held
 pub held_at : (store : Store) (table : ℕ) → IsWithin store → IsTable store table → (held : Table) × TableOf store table held
 held_at store table within is =
-    let def = table_at store.schema.tables (table - 1) (omega (arith, is.first, is.last)) in
-    let there = each-at IsHeldAs 1 (table - 1) store.schema.tables store.tables.items def.0 within.tables def.1 in
+    let def = table_at store.schema.catalog.tables (table - 1) (omega (arith, is.first, is.last)) in
+    let there = each-at IsHeldAs 1 (table - 1) store.schema.catalog.tables store.tables.items def.0 within.tables def.1 in
     let number : 1 + (table - 1) ≡ table = omega (arith, is.first) in (
       there.table,
       record { within = within; def = def.0; defined = def.1; stands = there.stands; number = number; held_as = subst (λ (n : ℕ). IsHeldAs n def.0 there.table) number there.holds },
@@ -83,33 +85,33 @@ module _ (store : Store) (outside : Outside) (before : List ℕ) (m : Moment) (w
   moment_left image is = record {
     lawful = at.lawful;
     files_stand =
-        subst (λ (tables : List TableDef). FilesStand image (map catalog_payload m.history.schema) (map form_of tables) (book_of m.history)) at.tables
+        subst (λ (tables : List TableDef). FilesStand image (map catalog_payload m.history.schema) (map form_of tables) (book_of m.history)) (same_tables store.schema.catalog (catalog_of m.history.schema) at.catalog)
         (image_stands store outside.files (map catalog_payload m.history.schema) (book_of m.history) within at.holds image is);
   }
 
   -- its tables have as many entries as are held of them
-  pub moment_entries : Agree store.schema.tables (entries_in m.history) (entries_held store)
+  pub moment_entries : Agree store.schema.catalog.tables (entries_in m.history) (entries_held store)
   moment_entries table first last =
       let held = held_at store table within (record { first = first; last = last }) in
       let book = its_book store table held.0 held.1 outside.files (map catalog_payload m.history.schema) (book_of m.history) at.holds in
       sym (length-entries m.history table) ∙ sym book.describes.entries ∙ sym (ap (λ (s : State). s.entries) (its_state store table held.0 held.1))
 
--- beside a store's tables and how many entries are held of them, this is what a client asks for
+-- beside what a store has defined and how many entries are held of them, this is what a client asks for
 abbrev pub Asks : Wish → Store → Result Task Refusal → Type 0
-Asks wish store asked = (entries : ℕ → ℕ) → Agree store.schema.tables entries (entries_held store) → wish store.schema.tables entries ≡ asked
+Asks wish store asked = (entries : ℕ → ℕ) → Agree store.schema.catalog.tables entries (entries_held store) → wish store.schema.catalog entries ≡ asked
 
 module _ (client : ℕ) (wish : Wish) (store : Store) (asked : Result Task Refusal) (asks : Asks wish store asked) where
   -- so its events are those of what it asks for
   pub asked_at : (outside : Outside) (before : List ℕ) (m : Moment) → IsWithin store → IsAt store outside before m → wish_events client wish m.history ≡ answer_events client asked m.history
   asked_at outside before m within at =
       ap (λ (a : Result Task Refusal). answer_events client a m.history)
-      (ap (λ (tables : List TableDef). wish tables (entries_in m.history)) (sym at.tables) ∙ asks (entries_in m.history) (moment_entries store outside before m within at))
+      (ap (λ (catalog : Catalog). wish catalog (entries_in m.history)) (sym at.catalog) ∙ asks (entries_in m.history) (moment_entries store outside before m within at))
 
   pub asked_kept : (kept : Kept) → HoldsKept store kept → wish_in wish kept ≡ asked
   asked_kept kept has =
-      ap (λ (tables : List TableDef). wish tables (λ table. (kept.states table).entries)) (sym has.tables)
+      ap (λ (catalog : Catalog). wish catalog (λ table. (kept.states table).entries)) (sym has.catalog)
       ∙ asks (λ table. (kept.states table).entries)
-      (λ table first last. ap (λ (s : State). s.entries) (sym (has.states table first (omega (arith, last, ap (λ (tables : List TableDef). length tables) has.tables)))))
+      (λ table first last. ap (λ (s : State). s.entries) (sym (has.states table first (omega (arith, last, ap (λ (catalog : Catalog). length catalog.tables) has.catalog)))))
 
 -- a store that holds the same, beside files that are the same
 module _ (was is : Store) (old new : FileId → FileState) (same : HoldsSame was is) (kept : KeepsFiles old new) where
@@ -122,14 +124,14 @@ module _ (was is : Store) (old new : FileId → FileState) (same : HoldsSame was
   same_logged logged = record {
     schema = logged.schema;
     lawful = logged.lawful;
-    tables = ap (λ s. s.tables) same.schema ∙ logged.tables;
+    catalog = ap (λ s. s.catalog) same.schema ∙ logged.catalog;
     commits = logged.commits;
     holds =
         subst (λ (files : FileId → FileState). HoldsLogs is files (map catalog_payload logged.schema) logged.commits) (same_files old new kept)
         (same.logs old (map catalog_payload logged.schema) logged.commits logged.holds);
     others = λ table above.
         subst (λ (s : FileState). s.most ≤ 1) (sym (kept (table_log table)))
-        (logged.others table (omega (arith, above, ap (λ s. length s.tables) same.schema)));
+        (logged.others table (omega (arith, above, ap (λ s. length s.catalog.tables) same.schema)));
   }
 
   pub same_placed : IsPlaced was old → IsPlaced is new
@@ -137,7 +139,7 @@ module _ (was is : Store) (old new : FileId → FileState) (same : HoldsSame was
 
 pub same_kept : (was is : Store) (kept : Kept) → HoldsSame was is → HoldsKept was kept → HoldsKept is kept
 same_kept was is kept same has = record {
-  tables = ap (λ s. s.tables) same.schema ∙ has.tables;
+  catalog = ap (λ s. s.catalog) same.schema ∙ has.catalog;
   states = λ table first last. ap (λ (states : List State). get_or states (table - 1) no_state) same.states ∙ has.states table first last;
 }
 
@@ -147,7 +149,7 @@ pub moment_replied : (was is : Store) (old new : Outside) (before line : List �
 moment_replied was is old new before line plans mark m same at kept added = record {
   at = record {
     lawful = at.lawful;
-    tables = ap (λ s. s.tables) (same.schema) ∙ at.tables;
+    catalog = ap (λ s. s.catalog) (same.schema) ∙ at.catalog;
     holds = same_books was is old.files new.files same kept m at.holds;
     text = text_goes_on before old.said new.said m.said line at.text added;
   };
@@ -293,14 +295,14 @@ no_memory_answers tells client wish was is now within only_now =
     failed_answers tells client wish was is now now within (λ tell. started now (IsLeft now.files now.said) (only_now tell)) NoMemory (λ damage same. absurd (cc same))
     (counts_nothing NoMemory now (λ same. absurd (cc same)) (λ same. absurd (cc same)))
 
--- what is asked for is the same beside a store's tables
+-- what is asked for is the same beside what a store has defined
 module _ (tells : Type 0) (client : ℕ) (one two : Wish) (result : Result Bool RunFault) (was is : Store) (old new : Outside)
-    (same : (entries : ℕ → ℕ) → one was.schema.tables entries ≡ two was.schema.tables entries) (answers : Answers tells client one result was is old new) where
-  beside : (tables : List TableDef) (entries : ℕ → ℕ) → was.schema.tables ≡ tables → one tables entries ≡ two tables entries
-  beside tables entries is = subst (λ (ts : List TableDef). one ts entries ≡ two ts entries) is (same entries)
+    (same : (entries : ℕ → ℕ) → one was.schema.catalog entries ≡ two was.schema.catalog entries) (answers : Answers tells client one result was is old new) where
+  beside : (catalog : Catalog) (entries : ℕ → ℕ) → was.schema.catalog ≡ catalog → one catalog entries ≡ two catalog entries
+  beside catalog entries is = subst (λ (c : Catalog). one c entries ≡ two c entries) is (same entries)
 
   same_events : (before : List ℕ) (m : Moment) → IsAt was old before m → wish_events client one m.history ≡ wish_events client two m.history
-  same_events before m at = ap (λ (a : Result Task Refusal). answer_events client a m.history) (beside (tables_of m.history.schema) (entries_in m.history) at.tables)
+  same_events before m at = ap (λ (a : Result Task Refusal). answer_events client a m.history) (beside (catalog_of m.history.schema) (entries_in m.history) at.catalog)
 
   same_met : (damage : Damage) → HasMet one damage was is old new → HasMet two damage was is old new
   same_met damage met = record {
@@ -321,7 +323,7 @@ module _ (tells : Type 0) (client : ℕ) (one two : Wish) (result : Result Bool 
         IfOk-weaker result (λ refused. (kept : Kept) → HoldsKept was kept → HoldsKept is (kept_task (wish_in one kept) kept) × IsRefused (wish_in one kept) refused)
         (λ refused. (kept : Kept) → HoldsKept was kept → HoldsKept is (kept_task (wish_in two kept) kept) × IsRefused (wish_in two kept) refused)
         (λ refused so kept has.
-        subst (λ (a : Result Task Refusal). HoldsKept is (kept_task a kept) × IsRefused a refused) (beside kept.tables (λ table. (kept.states table).entries) has.tables) (so kept has)) answers.kept;
+        subst (λ (a : Result Task Refusal). HoldsKept is (kept_task a kept) × IsRefused a refused) (beside kept.catalog (λ table. (kept.states table).entries) has.catalog) (so kept has)) answers.kept;
     refused = answers.refused;
     logged = answers.logged;
     usable = answers.usable;

@@ -6,12 +6,14 @@ use Rattle.std.proofs.lemmas.List.{get_or_past, length-append, length-map, map_p
 use Rattle.chv_ast.specs.declared.refusal.Refusal.{Refusal}
 use Rattle.chv_ast.specs.declared.statement.CreateTable.{CreateTable}
 use Rattle.chv_ast.specs.declared.statement.Statement.TheVariants as statement
+use Rattle.chv_catalog.proofs.SchemaLemmas.{same_tables}
+use Rattle.chv_catalog.specs.Schemas.{Catalog, with_table}
 use Rattle.chv_catalog.specs.declared.table_def.TableDef.{TableDef}
 use Rattle.chv_commit.specs.Replays.{State, no_state}
 use Rattle.chv_commit.specs.declared.commit.Commit.{Commit}
-use Rattle.chv_define.specs.Accepted.{Accepted, IsAccepted, Table, catalog_payload, tables_of}
-use Rattle.chv_define.specs.Definitions.{defined}
-use Rattle.chv_define.proofs.AcceptedLemmas.{AreAccepted-push, tables_of-push}
+use Rattle.chv_query.specs.Accepted.{Accepted, IsAccepted, Table, catalog_of, catalog_payload}
+use Rattle.chv_query.specs.Definitions.{defined}
+use Rattle.chv_query.proofs.AcceptedLemmas.{IsSchema-push, catalog_of-push}
 use Rattle.chv_part.specs.Books.{Book, TableForm, no_book}
 use Rattle.chv_part.specs.Forms.{form_of}
 use Rattle.chv_site.specs.During.{During}
@@ -57,15 +59,15 @@ made create def = record { statement = statement.CreateTable create; definition 
 -- what the store's call did
 pub record HasCreated (tells : Type 0) (result : Result (Unit {0}) PutFault) (was is : Store) (create : CreateTable) (def : TableDef) (old new : Outside) : Type 0 where
   pub created : tells → (payloads : List (List ℕ)) (books : ℕ → Book) → HoldsBooks was old.files payloads books
-      → Turns result (HoldsBooks is new.files (payloads ++ catalog_payload (made create def) ∷ []) (with_book (length was.schema.tables + 1) no_book books)) (StandsFor payloads (forms_of was) books)
-      (StandsFor (payloads ++ catalog_payload (made create def) ∷ []) (forms_of was ++ form_of def ∷ []) (with_book (length was.schema.tables + 1) no_book books)) old new
-  pub logged : tells → (payloads : List (List ℕ)) (commits : ℕ → List Commit) → HoldsLogs was old.files payloads commits → (old.files (table_log (length was.schema.tables + 1))).most ≤ 1
-      → OnOk result (HoldsLogs is new.files (payloads ++ catalog_payload (made create def) ∷ []) (with_one (length was.schema.tables + 1) [] commits))
-  pub held : OnOk result ((is.schema.tables ≡ was.schema.tables ++ def ∷ []) × (states_of is ≡ states_of was ++ no_state ∷ []))
-  pub keeps : ChangesLogs tells (IsErrOf result put.Failed) (length was.schema.tables + 1) old new
+      → Turns result (HoldsBooks is new.files (payloads ++ catalog_payload (made create def) ∷ []) (with_book (length was.schema.catalog.tables + 1) no_book books)) (StandsFor payloads (forms_of was) books)
+      (StandsFor (payloads ++ catalog_payload (made create def) ∷ []) (forms_of was ++ form_of def ∷ []) (with_book (length was.schema.catalog.tables + 1) no_book books)) old new
+  pub logged : tells → (payloads : List (List ℕ)) (commits : ℕ → List Commit) → HoldsLogs was old.files payloads commits → (old.files (table_log (length was.schema.catalog.tables + 1))).most ≤ 1
+      → OnOk result (HoldsLogs is new.files (payloads ++ catalog_payload (made create def) ∷ []) (with_one (length was.schema.catalog.tables + 1) [] commits))
+  pub held : OnOk result ((is.schema.catalog ≡ with_table def was.schema.catalog) × (states_of is ≡ states_of was ++ no_state ∷ []))
+  pub keeps : ChangesLogs tells (IsErrOf result put.Failed) (length was.schema.catalog.tables + 1) old new
 
 -- a table that is not defined is refused
-pub create_refused : (store : Store) (create : CreateTable) (refuses : Refusal) → defined store.schema.tables create ≡ Err refuses → Asks (create_wish create) store (Err refuses)
+pub create_refused : (store : Store) (create : CreateTable) (refuses : Refusal) → defined store.schema.catalog create ≡ Err refuses → Asks (create_wish create) store (Err refuses)
 create_refused store create refuses is entries agree = ap (λ (r : Result TableDef Refusal). and_then r (λ d. Ok (Make (made create d)))) is
 
 -- a definition of a table asks for no rows
@@ -80,12 +82,12 @@ get_or-default (x ∷ xs) zero d = refl
 get_or-default (x ∷ xs) (suc i) d = get_or-default xs i d
 
 module _ (tells : Type 0) (client : ℕ) (result : Result (Unit {0}) PutFault) (was is : Store) (create : CreateTable) (def : TableDef) (old new : Outside) (usable : IsUsable tells was old)
-    (makes : MakesTable was.schema.tables (statement.CreateTable create) def) (call : HasCreated tells result was is create def old new) where
+    (makes : MakesTable was.schema.catalog (statement.CreateTable create) def) (call : HasCreated tells result was is create def old new) where
   abbrev accepted : Accepted
   accepted = made create def
 
   abbrev number : ℕ
-  number = length was.schema.tables + 1
+  number = length was.schema.catalog.tables + 1
 
   asks : Asks (create_wish create) was (Ok (Make accepted))
   asks entries agree = ap (λ (r : Result TableDef Refusal). and_then r (λ d. Ok (Make (made create d)))) makes.passes.defines
@@ -102,16 +104,16 @@ module _ (tells : Type 0) (client : ℕ) (result : Result (Unit {0}) PutFault) (
     books = with_book number no_book (book_of m.history)
 
     lawful_next : IsLawful next
-    lawful_next = lawful_accepted accepted m.history at.lawful makes.built (subst (λ (tables : List TableDef). IsAccepted tables accepted) at.tables makes.passes)
+    lawful_next = lawful_accepted accepted m.history at.lawful makes.built (subst (λ (catalog : Catalog). IsAccepted catalog accepted) at.catalog makes.passes)
 
     payloads_next : payloads ++ catalog_payload (made create def) ∷ [] ≡ map catalog_payload next.schema
     payloads_next = sym (map_push catalog_payload m.history.schema accepted)
 
     books_next : (n : ℕ) → book_of next n ≡ books n
-    books_next n = books-accepted accepted m.history n ∙ ap (λ (tables : List TableDef). put_at (length tables + 1) no_book (book_of m.history) n) (sym at.tables)
+    books_next n = books-accepted accepted m.history n ∙ ap (λ (catalog : Catalog). put_at (length catalog.tables + 1) no_book (book_of m.history) n) (sym at.catalog)
 
     forms_are : forms_of was ≡ forms_in m.history.schema
-    forms_are = ap (map form_of) at.tables
+    forms_are = ap (map form_of) (same_tables was.schema.catalog (catalog_of m.history.schema) at.catalog)
 
     forms_next : forms_of was ++ form_of def ∷ [] ≡ forms_in next.schema
     forms_next = ap (λ (forms : List TableForm). forms ++ form_of def ∷ []) forms_are ∙ sym (forms_of-push m.history.schema accepted)
@@ -134,53 +136,53 @@ module _ (tells : Type 0) (client : ℕ) (result : Result (Unit {0}) PutFault) (
 
     create_at : result ≡ Ok tt → tells → IsAt is new before (happen (Created accepted) m)
     create_at ok tell =
-        let held = subst (λ (r : Result (Unit {0}) PutFault). OnOk r ((is.schema.tables ≡ was.schema.tables ++ def ∷ []) × (states_of is ≡ states_of was ++ no_state ∷ []))) ok call.held in
+        let held = subst (λ (r : Result (Unit {0}) PutFault). OnOk r ((is.schema.catalog ≡ with_table def was.schema.catalog) × (states_of is ≡ states_of was ++ no_state ∷ []))) ok call.held in
         let holds = subst (λ (r : Result (Unit {0}) PutFault). OnOk r (HoldsBooks is new.files (payloads ++ catalog_payload (made create def) ∷ []) books)) ok (turns tell).done in
         record {
           lawful = lawful_next;
-          tables = held.0 ∙ ap (λ (tables : List TableDef). tables ++ def ∷ []) at.tables ∙ sym (tables_of-push m.history.schema accepted);
+          catalog = held.0 ∙ ap (with_table def) at.catalog ∙ sym (catalog_of-push m.history.schema accepted);
           holds = subst (λ (ps : List (List ℕ)). HoldsBooks is new.files ps (book_of next)) payloads_next (holds_by is new.files (payloads ++ catalog_payload (made create def) ∷ []) books (book_of next) books_next holds);
           text = call.keeps.said tell ∙ at.text;
         }
 
   module _ (ok : result ≡ Ok tt) where
-    held : (is.schema.tables ≡ was.schema.tables ++ def ∷ []) × (states_of is ≡ states_of was ++ no_state ∷ [])
-    held = subst (λ (r : Result (Unit {0}) PutFault). OnOk r ((is.schema.tables ≡ was.schema.tables ++ def ∷ []) × (states_of is ≡ states_of was ++ no_state ∷ []))) ok call.held
+    held : (is.schema.catalog ≡ with_table def was.schema.catalog) × (states_of is ≡ states_of was ++ no_state ∷ [])
+    held = subst (λ (r : Result (Unit {0}) PutFault). OnOk r ((is.schema.catalog ≡ with_table def was.schema.catalog) × (states_of is ≡ states_of was ++ no_state ∷ []))) ok call.held
 
-    one_more : length is.schema.tables ≡ number
-    one_more = ap (λ (tables : List TableDef). length tables) held.0 ∙ length-append was.schema.tables (def ∷ [])
+    one_more : length is.schema.catalog.tables ≡ number
+    one_more = ap (λ (catalog : Catalog). length catalog.tables) held.0 ∙ length-append was.schema.catalog.tables (def ∷ [])
 
     -- what is held of each table
     same_state : (table : ℕ) → state_of is table ≡ state_of was table
     same_state table = ap (λ (states : List State). get_or states (table - 1) no_state) held.1 ∙ get_or-default (states_of was) (table - 1) no_state
 
-    few_states : length (states_of was) ≡ length was.schema.tables
-    few_states = length-map was.tables.items held_state ∙ each-length IsHeldAs 1 was.schema.tables was.tables.items usable.within.tables
+    few_states : length (states_of was) ≡ length was.schema.catalog.tables
+    few_states = length-map was.tables.items held_state ∙ each-length IsHeldAs 1 was.schema.catalog.tables was.tables.items usable.within.tables
 
     create_kept : (kept : Kept) → HoldsKept was kept → HoldsKept is (kept_task (Ok (Make accepted)) kept)
     create_kept kept has =
-        let last = length kept.tables + 1 in
-        let many : length was.schema.tables ≡ length kept.tables = ap (λ (tables : List TableDef). length tables) has.tables in
+        let last = length kept.catalog.tables + 1 in
+        let many : length was.schema.catalog.tables ≡ length kept.catalog.tables = ap (λ (catalog : Catalog). length catalog.tables) has.catalog in
         record {
-          tables = held.0 ∙ ap (λ (tables : List TableDef). tables ++ def ∷ []) has.tables;
+          catalog = held.0 ∙ ap (with_table def) has.catalog;
           states = λ table first within. elim (cases_eq table last) as (λ _. state_of is table ≡ put_at last no_state kept.states table) [
             | inl same ↦
                 same_state table ∙ get_or_past (states_of was) (table - 1) no_state (omega (arith, same, few_states, many))
                 ∙ subst (λ (n : ℕ). no_state ≡ put_at last no_state kept.states n) (sym same) (sym (put_at-same last no_state kept.states))
             | inr other ↦
-                same_state table ∙ has.states table first (omega (arith, within, other, length-append kept.tables (def ∷ []))) ∙ sym (put_at-other last table no_state kept.states other)
+                same_state table ∙ has.states table first (omega (arith, within, other, length-append kept.catalog.tables (def ∷ []))) ∙ sym (put_at-other last table no_state kept.states other)
           ];
         }
 
     create_logged : tells → IsLogged was old.files → IsLogged is new.files
     create_logged tell logged =
         let payloads = map catalog_payload logged.schema in
-        let passes : IsAccepted (tables_of logged.schema) accepted = subst (λ (tables : List TableDef). IsAccepted tables accepted) logged.tables makes.passes in
+        let passes : IsAccepted (catalog_of logged.schema) accepted = subst (λ (catalog : Catalog). IsAccepted catalog accepted) logged.catalog makes.passes in
         let holds = call.logged tell payloads logged.commits logged.holds (logged.others number (omega arith)) in
         record {
           schema = logged.schema ++ accepted ∷ [];
-          lawful = AreAccepted-push [] logged.schema accepted logged.lawful makes.built passes;
-          tables = held.0 ∙ ap (λ (tables : List TableDef). tables ++ def ∷ []) logged.tables ∙ sym (tables_of-push logged.schema accepted);
+          lawful = IsSchema-push logged.schema accepted logged.lawful makes.built passes;
+          catalog = held.0 ∙ ap (with_table def) logged.catalog ∙ sym (catalog_of-push logged.schema accepted);
           commits = with_one number [] logged.commits;
           holds = subst (λ (ps : List (List ℕ)). HoldsLogs is new.files ps (with_one number [] logged.commits)) (sym (map_push catalog_payload logged.schema accepted))
               (subst (λ (r : Result (Unit {0}) PutFault). OnOk r (HoldsLogs is new.files (payloads ++ catalog_payload (made create def) ∷ []) (with_one number [] logged.commits))) ok holds);

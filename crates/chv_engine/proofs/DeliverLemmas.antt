@@ -8,15 +8,17 @@ use Rattle.std.proofs.lemmas.Bool.Decides.{Decides-and, Decides-eqb, Decides-lik
 use Rattle.std.proofs.lemmas.Map.Made.{is_member-Decides}
 use Rattle.std.proofs.lemmas.Option.{get_or_from_slice_get, slice_get-map, slice_get_within}
 use Rattle.std.specs.Option.{option_map}
+use Rattle.chv_catalog.specs.Schemas.{Catalog}
 use Rattle.chv_catalog.specs.declared.table_def.TableDef.{TableDef}
 use Rattle.chv_commit.specs.Replays.{State, added, no_state}
 use Rattle.chv_commit.specs.declared.commit.Commit.{Commit}
-use Rattle.chv_define.specs.Accepted.{catalog_payload, tables_of}
+use Rattle.chv_query.specs.Accepted.{catalog_of, catalog_payload, tables_of}
 use Rattle.chv_part.specs.Books.{Book, Entry, arrived}
 use Rattle.chv_part.specs.Forms.{form_of}
 use Rattle.chv_part.specs.Parts.{IsPartFile}
-use Rattle.chv_plan.specs.Arrivals.{Arrival, IsArrival, entry_in}
-use Rattle.chv_plan.specs.Plans.{Delivery, Delivers as IsHeldDelivery}
+use Rattle.chv_query.specs.Arrivals.{Arrival, IsArrival, entry_in}
+use Rattle.chv_query.specs.Plans.{Delivery}
+use Rattle.chv_plan.specs.Deliveries.{Delivers as IsHeldDelivery}
 use Rattle.chv_plan.specs.declared.delivery.Delivery.{Delivery as HeldDelivery}
 use Rattle.chv_sip.specs.BlockIds.{id_eq, last_ids}
 use Rattle.chv_sip.specs.declared.block_id.BlockId.{BlockId}
@@ -61,7 +63,7 @@ count_of Skipped = 0
 
 -- what the store's call did
 pub record HasDelivered (tells : Type 0) (result : Result Delivered Failed) (was is : Store) (table : ℕ) (id : BlockId) (rows : ℕ) (encoded : List ℕ) (old new : Outside) : Type 0 where
-  pub delivered : tells → (payloads : List (List ℕ)) (books : ℕ → Book) (entry : Entry) → BringsTo was.schema.tables table id rows encoded entry → HoldsBooks was old.files payloads books
+  pub delivered : tells → (payloads : List (List ℕ)) (books : ℕ → Book) (entry : Entry) → BringsTo was.schema.catalog.tables table id rows encoded entry → HoldsBooks was old.files payloads books
       → Turns result (HoldsBooks is new.files payloads (books_behind was table entry books)) (StandsFor payloads (forms_of was) books) (StandsFor payloads (forms_of was) (books_behind was table entry books)) old new
   pub logged : tells → IfOk result (λ answer. (payloads : List (List ℕ)) (commits : ℕ → List Commit) → HoldsLogs was old.files payloads commits → HoldsLogs is new.files payloads (commits_behind answer was table rows id commits))
   pub noted : IfOk result (λ answer. Notes answer was is table rows id)
@@ -76,7 +78,7 @@ same_window (Some def) = refl
 pub holds_by : (store : Store) (files : FileId → FileState) (payloads : List (List ℕ)) (old new : ℕ → Book) → ((n : ℕ) → new n ≡ old n) → HoldsBooks store files payloads old → HoldsBooks store files payloads new
 holds_by store files payloads old new same holds = record {
   catalog = holds.catalog;
-  tables = each-weaker (λ n def table. HoldsBook table files (old n)) (λ n def table. HoldsBook table files (new n)) 1 store.schema.tables store.tables.items
+  tables = each-weaker (λ n def table. HoldsBook table files (old n)) (λ n def table. HoldsBook table files (new n)) 1 store.schema.catalog.tables store.tables.items
       (λ n def table low high held. subst (HoldsBook table files) (sym (same n)) held) holds.tables;
   others = holds.others;
 }
@@ -112,9 +114,9 @@ nothing_ok (Ok x) P err = absurd (false≢true err)
 nothing_ok (Err e) P err = tt
 
 module _ (tells : Type 0) (result : Result Delivered Failed) (was is : Store) (planned : Delivery) (encoded : List ℕ) (old new : Outside) (within : IsWithin was) (room : HasRoom 1 was planned.table)
-    (def : TableDef) (stands : slice_get was.schema.tables (planned.table - 1) ≡ Some def) (lawful : IsArrival (form_of def) planned.entry) (encoded_is : IsPartFile (form_of def) planned.entry.rows encoded)
+    (def : TableDef) (stands : slice_get was.schema.catalog.tables (planned.table - 1) ≡ Some def) (lawful : IsArrival (form_of def) planned.entry) (encoded_is : IsPartFile (form_of def) planned.entry.rows encoded)
     (call : HasDelivered tells result was is planned.table planned.entry.id (length planned.entry.rows) encoded old new) where
-  brings : BringsTo was.schema.tables planned.table planned.entry.id (length planned.entry.rows) encoded (entry_in planned.entry)
+  brings : BringsTo was.schema.catalog.tables planned.table planned.entry.id (length planned.entry.rows) encoded (entry_in planned.entry)
   brings = record { def = def; stands = stands; lawful = IsEntry-IsArrival (form_of def) planned.entry lawful; id_is = refl; rows_are = refl; encoded_is = encoded_is }
 
   -- the table that stands there says what is held
@@ -133,8 +135,8 @@ module _ (tells : Type 0) (result : Result Delivered Failed) (was is : Store) (p
       let ids = (state_of was planned.table).ids in
       told_skipped answer (list_any (id_eq planned.entry.id) ids) (Contains ids planned.entry.id) (id_among planned.entry.id ids) (notes answer ok).skipped
 
-  same_tables : (answer : Delivered) → result ≡ Ok answer → is.schema.tables ≡ was.schema.tables
-  same_tables answer ok = ap (λ s. s.tables) (notes answer ok).schema
+  same_catalog : (answer : Delivered) → result ≡ Ok answer → is.schema.catalog ≡ was.schema.catalog
+  same_catalog answer ok = ap (λ s. s.catalog) (notes answer ok).schema
 
   -- at a moment
   module _ (before : List ℕ) (m : Moment) (at : IsAt was old before m) where
@@ -142,7 +144,7 @@ module _ (tells : Type 0) (result : Result Delivered Failed) (was is : Store) (p
     next = delivered planned m.history
 
     window : window_of was planned.table ≡ window_at (tables_of m.history.schema) planned.table
-    window = same_window (slice_get was.schema.tables (planned.table - 1)) ∙ ap (λ (tables : List TableDef). window_at tables planned.table) at.tables
+    window = same_window (slice_get was.schema.catalog.tables (planned.table - 1)) ∙ ap (λ (catalog : Catalog). window_at catalog.tables planned.table) at.catalog
 
     ids_are : (state_of was planned.table).ids ≡ last_ids (window_at (tables_of m.history.schema) planned.table) (ids_in (m.history.arrivals planned.table))
     ids_are =
@@ -155,7 +157,7 @@ module _ (tells : Type 0) (result : Result Delivered Failed) (was is : Store) (p
     may = record {
       first = room.is_table.first;
       form = form_of def;
-      stands = form_there (tables_of m.history.schema) (planned.table - 1) def (subst (λ (tables : List TableDef). slice_get tables (planned.table - 1) ≡ Some def) at.tables stands);
+      stands = form_there (tables_of m.history.schema) (planned.table - 1) def (subst (λ (catalog : Catalog). slice_get catalog.tables (planned.table - 1) ≡ Some def) at.catalog stands);
       is = lawful;
       room =
           let held = moment_entries was old before m within at planned.table room.is_table.first room.is_table.last in
@@ -178,7 +180,7 @@ module _ (tells : Type 0) (result : Result Delivered Failed) (was is : Store) (p
     payloads_next = ap (map catalog_payload) (sym schema_next)
 
     forms_are : forms_of was ≡ forms_in m.history.schema
-    forms_are = ap (map form_of) at.tables
+    forms_are = ap (λ (catalog : Catalog). map form_of catalog.tables) at.catalog
 
     -- what a crash leaves stands for the history from before it, or behind it
     left_old : (image : Image) → StandsFor (map catalog_payload m.history.schema) (forms_of was) (book_of m.history) image → Stands image m.history
@@ -208,7 +210,7 @@ module _ (tells : Type 0) (result : Result Delivered Failed) (was is : Store) (p
           let done = subst (λ (r : Result Delivered Failed). OnOk r (HoldsBooks is new.files (map catalog_payload m.history.schema) (books_behind was planned.table (entry_in planned.entry) (book_of m.history)))) ok (turns tell).done in
           record {
             lawful = lawful_next;
-            tables = same_tables answer ok ∙ at.tables ∙ ap tables_of (sym schema_next);
+            catalog = same_catalog answer ok ∙ at.catalog ∙ ap catalog_of (sym schema_next);
             holds = subst (λ (payloads : List (List ℕ)). HoldsBooks is new.files payloads (book_of next)) payloads_next
                 (holds_by is new.files (map catalog_payload m.history.schema) (books_behind was planned.table (entry_in planned.entry) (book_of m.history)) (book_of next) books_next done);
             text = call.keeps.said tell ∙ at.text;
@@ -223,17 +225,17 @@ module _ (tells : Type 0) (result : Result Delivered Failed) (was is : Store) (p
 
   -- what is held of the tables
   module _ (kept : Kept) (has : HoldsKept was kept) where
-    last_kept : planned.table ≤ length kept.tables
-    last_kept = omega (arith, room.is_table.last, ap (λ (tables : List TableDef). length tables) has.tables)
+    last_kept : planned.table ≤ length kept.catalog.tables
+    last_kept = omega (arith, room.is_table.last, ap (λ (catalog : Catalog). length catalog.tables) has.catalog)
 
     its : state_of was planned.table ≡ kept.states planned.table
     its = has.states planned.table room.is_table.first last_kept
 
-    window_kept : window_of was planned.table ≡ window_at kept.tables planned.table
-    window_kept = same_window (slice_get was.schema.tables (planned.table - 1)) ∙ ap (λ (tables : List TableDef). window_at tables planned.table) has.tables
+    window_kept : window_of was planned.table ≡ window_at kept.catalog.tables planned.table
+    window_kept = same_window (slice_get was.schema.catalog.tables (planned.table - 1)) ∙ ap (λ (catalog : Catalog). window_at catalog.tables planned.table) has.catalog
 
     abbrev note : State
-    note = noted (window_at kept.tables planned.table) planned.entry (kept.states planned.table)
+    note = noted (window_at kept.catalog.tables planned.table) planned.entry (kept.states planned.table)
 
     -- it is noted where it is written
     note_by : (b : Bool) → list_any (id_eq planned.entry.id) (state_of was planned.table).ids ≡ b
@@ -258,7 +260,7 @@ module _ (tells : Type 0) (result : Result Delivered Failed) (was is : Store) (p
 
     one_kept : (answer : Delivered) → result ≡ Ok answer → HoldsKept is (kept_delivery planned kept)
     one_kept answer ok = record {
-      tables = same_tables answer ok ∙ has.tables;
+      catalog = same_catalog answer ok ∙ has.catalog;
       states = λ table first last.
           let states = ap (λ (states : List State). get_or states (table - 1) no_state) (notes answer ok).states in
           elim (cases_eq table planned.table) as (λ _. state_of is table ≡ put_at planned.table note kept.states table) [
@@ -276,14 +278,14 @@ module _ (tells : Type 0) (result : Result Delivered Failed) (was is : Store) (p
   one_logged answer ok tell logged = record {
     schema = logged.schema;
     lawful = logged.lawful;
-    tables = same_tables answer ok ∙ logged.tables;
+    catalog = same_catalog answer ok ∙ logged.catalog;
     commits = commits_behind answer was planned.table (length planned.entry.rows) planned.entry.id logged.commits;
     holds =
         (subst (λ (r : Result Delivered Failed). IfOk r (λ a. (payloads : List (List ℕ)) (commits : ℕ → List Commit) → HoldsLogs was old.files payloads commits
         → HoldsLogs is new.files payloads (commits_behind a was planned.table (length planned.entry.rows) planned.entry.id commits))) ok (call.logged tell))
         (map catalog_payload logged.schema) logged.commits logged.holds;
     others = λ table beyond.
-        let above : length was.schema.tables < table = omega (arith, beyond, ap (λ (tables : List TableDef). length tables) (same_tables answer ok)) in
+        let above : length was.schema.catalog.tables < table = omega (arith, beyond, ap (λ (catalog : Catalog). length catalog.tables) (same_catalog answer ok)) in
         let other : table ≢ planned.table = λ same. absurd (omega (arith, same, above, room.is_table.last)) in
         subst (λ (s : FileState). s.most ≤ 1)
         (sym (call.keeps.others tell (table_log table) (λ same. other (ap (λ (f : FileId). f.table) same)) (λ same. other (ap (λ (f : FileId). f.table) same))))
@@ -310,7 +312,7 @@ module _ (tells : Type 0) (result : Result Delivered Failed) (was is : Store) (p
 
 -- so it is with a delivery by what is held of it
 module _ (tells : Type 0) (result : Result Delivered Failed) (was is : Store) (held : HeldDelivery) (encoded : List ℕ) (same : encoded ≡ held.encoded) (old new : Outside) (within : IsWithin was) (room : HasRoom 1 was held.table)
-    (call : HasDelivered tells result was is held.table held.id held.rows encoded old new) (planned : Delivery) (of : IsHeldDelivery was.schema.tables held planned) where
+    (call : HasDelivered tells result was is held.table held.id held.rows encoded old new) (planned : Delivery) (of : IsHeldDelivery was.schema.catalog.tables held planned) where
   its_room : HasRoom 1 was planned.table
   its_room = subst (HasRoom 1 was) of.table room
 

@@ -4,7 +4,7 @@ use Rattle.std.specs.Prelude.{Result}
 use Rattle.std.proofs.lemmas.List.{append-nil}
 use Rattle.std.proofs.lemmas.Result.{IfOk-weaker}
 use Rattle.chv_catalog.specs.declared.table_def.TableDef.{TableDef}
-use Rattle.chv_define.specs.Accepted.{tables_of, catalog_payload}
+use Rattle.chv_query.specs.Accepted.{catalog_of, catalog_payload, tables_of}
 use Rattle.chv_history.specs.Crashes.{IsLeftBy}
 use Rattle.chv_history.specs.Events.{Moment, begins, behind}
 use Rattle.chv_history.specs.Histories.{History, Settles, book_of}
@@ -66,8 +66,8 @@ module _ (requests : List Request) (history : History) where
 
   -- a store that is opened is at the first moment
   pub begins_at : (store : Store) (old mid : Outside) → Settles old.files history
-      → HoldsBooks store mid.files (map catalog_payload history.schema) (book_of history) × (store.schema.tables ≡ tables_of history.schema) → mid.said ≡ old.said → IsAt store mid old.said (begins history)
-  begins_at store old mid settles holds same = record { lawful = settles.stands.lawful; tables = holds.1; holds = holds.0; text = same ∙ sym (append-nil old.said) }
+      → HoldsBooks store mid.files (map catalog_payload history.schema) (book_of history) × (store.schema.catalog ≡ catalog_of history.schema) → mid.said ≡ old.said → IsAt store mid old.said (begins history)
+  begins_at store old mid settles holds same = record { lawful = settles.stands.lawful; catalog = holds.1; holds = holds.0; text = same ∙ sym (append-nil old.said) }
 
   -- and ends at the last
   pub ends_at : (store : Store) (old new : Outside) (refused : Bool) → IsWithin store → ((f : FileId) → HasLengths (new.files f)) → AnswersAs store new old.said refused (run_events requests (begins history)) (begins history)
@@ -82,10 +82,10 @@ module _ (requests : List Request) (history : History) where
 pub says_held : (was is : Store) (damage : Damage) (old mid new : Outside) → (HasNoStrays old.files → IsLogged was mid.files) → TellsHeld was is damage mid new → SaysDamage old new
 says_held was is damage old mid new logged told = record {
   text = told.text;
-  line = line_of is.schema.tables damage;
+  line = line_of is.schema.catalog.tables damage;
   ends = told.ends;
   damaged = inr (record {
-    tables = is.schema.tables;
+    tables = is.schema.catalog.tables;
     table = told.held.table;
     def = told.held.def;
     stands = told.held.stands;
@@ -150,14 +150,14 @@ module _ (tells still : Type 0) (tables : List TableDef) (ends : RunFault) (old 
 
 -- a store was not opened, and the fault was told
 module _ (tells still : Type 0) (why : OpenFault) (ends : RunFault) (old mid new : Outside) (as_was : still → new ≡ mid) (t : tells) (opening : IsOpeningFault (bytes_in old) why) (same : mid.said ≡ old.said)
-    (told : TellsFault tells still why.schema.tables (table_fault_of why.fault) ends mid new) where
-  its_damage : (damage : Damage) → table_fault_of why.fault ≡ Damaged damage → IsOpening (bytes_in old) why.schema.tables damage
+    (told : TellsFault tells still why.schema.catalog.tables (table_fault_of why.fault) ends mid new) where
+  its_damage : (damage : Damage) → table_fault_of why.fault ≡ Damaged damage → IsOpening (bytes_in old) why.schema.catalog.tables damage
   its_damage damage is = opening damage (fault_damaged why.fault damage is)
 
-  told_line : (damage : Damage) → ends ≡ Damaged damage → IsOpening (bytes_in old) why.schema.tables damage × (new.said ≡ old.said ++ line_of why.schema.tables damage)
+  told_line : (damage : Damage) → ends ≡ Damaged damage → IsOpening (bytes_in old) why.schema.catalog.tables damage × (new.said ≡ old.said ++ line_of why.schema.catalog.tables damage)
   told_line damage is =
       let said = told.told t damage is in
-      (its_damage damage said.0, said.1 ∙ ap (λ (text : List ℕ). text ++ line_of why.schema.tables damage) same)
+      (its_damage damage said.0, said.1 ∙ ap (λ (text : List ℕ). text ++ line_of why.schema.catalog.tables damage) same)
 
   -- the line is the last
   pub says_opening : (damage : Damage) → IsErrOf {T = Bool} (Err ends) (Damaged damage) → SaysDamage old new
@@ -166,9 +166,9 @@ module _ (tells still : Type 0) (why : OpenFault) (ends : RunFault) (old mid new
       let line = told_line damage is in
       record {
         text = old.said;
-        line = line_of why.schema.tables damage;
+        line = line_of why.schema.catalog.tables damage;
         ends = line.1;
-        damaged = inl (record { tables = why.schema.tables; damage = damage; is = line.0; told = refl });
+        damaged = inl (record { tables = why.schema.catalog.tables; damage = damage; is = line.0; told = refl });
       }
 
   -- it is the one that tells the damage of the logs
@@ -178,14 +178,14 @@ module _ (tells still : Type 0) (why : OpenFault) (ends : RunFault) (old mid new
       (λ damage is.
       let mine = told_line damage is in
       elim damaged as (λ _. new.said ≡ old.said ++ line) [
-        | inl other ↦ mine.1 ∙ ap (λ (l : List ℕ). old.said ++ l) (opening_unique (bytes_in old) why.schema.tables other.tables damage other.damage mine.0 other.is ∙ sym other.told)
-        | inr meets ↦ absurd (first_undamaged (bytes_in old) requests line meets why.schema.tables damage mine.0)
+        | inl other ↦ mine.1 ∙ ap (λ (l : List ℕ). old.said ++ l) (opening_unique (bytes_in old) why.schema.catalog.tables other.tables damage other.damage mine.0 other.is ∙ sym other.told)
+        | inr meets ↦ absurd (first_undamaged (bytes_in old) requests line meets why.schema.catalog.tables damage mine.0)
       ])
 
   -- where the files stand for a history, nothing was told
   module _ (history : History) (settles : Settles old.files history) where
-    undamaged : (damage : Damage) → IsOpening (bytes_in old) why.schema.tables damage → ⊥
-    undamaged = standing_undamaged (bytes_in old) history settles.stands why.schema.tables
+    undamaged : (damage : Damage) → IsOpening (bytes_in old) why.schema.catalog.tables damage → ⊥
+    undamaged = standing_undamaged (bytes_in old) history settles.stands why.schema.catalog.tables
 
     pub never_told : (damage : Damage) → IsErrOf {T = Bool} (Err ends) (Damaged damage) → ⊥
     never_told damage ended = let is : ends ≡ Damaged damage = cc in undamaged damage (told_line damage is).0
@@ -198,7 +198,7 @@ module _ (tells still : Type 0) (why : OpenFault) (ends : RunFault) (old mid new
 -- a store was opened, and the requests were answered
 pub tells_met : (store : Store) (old mid new : Outside) (result : Result Bool RunFault) (requests : List Request) (line : List ℕ) → IsWithin store → OpensAs store (bytes_in old) mid.files
     → ((f : FileId) → f.part ≢ 0 → mid.files f ≡ old.files f) → mid.said ≡ old.said → IsOpeningDamaged (bytes_in old) line ⊎ FirstMeets (bytes_in old) requests line
-    → ((damage : Damage) → FirstAsks requests store (bytes_in mid) damage → TellsOrFails result mid.said new.said (line_of store.schema.tables damage)) → TellsOrFails result old.said new.said line
+    → ((damage : Damage) → FirstAsks requests store (bytes_in mid) damage → TellsOrFails result mid.said new.said (line_of store.schema.catalog.tables damage)) → TellsOrFails result old.said new.said line
 tells_met store old mid new result requests line within opens parts same damaged met =
     elim damaged as (λ _. TellsOrFails result old.said new.said line) [
       | inl opening ↦ absurd (opened_undamaged store (bytes_in old) mid.files within opens opening.tables opening.damage opening.is)
@@ -215,7 +215,7 @@ module _ (tells : Type 0) (requests : List Request) (result : Result Bool RunFau
 
   -- where the files stood for a history, the run goes through its events
   module _ (history : History) (settles : Settles old.files history)
-      (holds : HoldsBooks store mid.files (map catalog_payload history.schema) (book_of history) × (store.schema.tables ≡ tables_of history.schema)) (same : mid.said ≡ old.said) where
+      (holds : HoldsBooks store mid.files (map catalog_payload history.schema) (book_of history) × (store.schema.catalog ≡ catalog_of history.schema)) (same : mid.said ≡ old.said) where
     start : IsAt store mid old.said (begins history)
     start = begins_at requests history store old mid settles holds same
 

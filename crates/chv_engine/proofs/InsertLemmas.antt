@@ -6,11 +6,12 @@ use Rattle.std.proofs.lemmas.Option.{slice_get_within}
 use Rattle.chv_ast.specs.declared.refusal.Refusal.{Refusal}
 use Rattle.chv_ast.specs.declared.refusal.Refusal.TheVariants.{LimitPassed}
 use Rattle.chv_ast.specs.declared.statement.Insert.{Insert}
-use Rattle.chv_catalog.specs.Schemas.{kinds_of}
+use Rattle.chv_catalog.specs.Schemas.{Catalog, kinds_of}
 use Rattle.chv_catalog.specs.declared.table_def.TableDef.{TableDef}
 use Rattle.chv_commit.specs.Replays.{MAX_ENTRIES}
 use Rattle.chv_part.specs.Books.{TableForm}
-use Rattle.chv_plan.specs.Plans.{Delivery, DeliversAll, planned}
+use Rattle.chv_query.specs.Plans.{Delivery, planned}
+use Rattle.chv_plan.specs.Deliveries.{DeliversAll}
 use Rattle.chv_plan.specs.declared.delivery.Delivery.{Delivery as HeldDelivery}
 use Rattle.chv_site.specs.Faults.{CountsDisk}
 use Rattle.chv_site.specs.Outside.{Outside}
@@ -46,46 +47,46 @@ kinds_are : (number : ℕ) (def : TableDef) (table : Table) → IsTableOf number
 kinds_are number def table of = ap (λ (form : TableForm). form.kinds) of.form_is
 
 -- no column of a store's tables is a state, and no table has more than 64
-pub all_plain : (store : Store) → IsWithin store → All (λ (def : TableDef). All IsPlain (kinds_of def)) store.schema.tables
+pub all_plain : (store : Store) → IsWithin store → All (λ (def : TableDef). All IsPlain (kinds_of def)) store.schema.catalog.tables
 all_plain store within =
-    each-def IsHeldAs (λ (def : TableDef). All IsPlain (kinds_of def)) 1 store.schema.tables store.tables.items
+    each-def IsHeldAs (λ (def : TableDef). All IsPlain (kinds_of def)) 1 store.schema.catalog.tables store.tables.items
     (λ n def table held. subst (All IsPlain) (kinds_are n def table held.1) held.0.columns.plain)
     within.tables
 
-pub all_few : (store : Store) → IsWithin store → All (λ (def : TableDef). length (kinds_of def) ≤ 64) store.schema.tables
+pub all_few : (store : Store) → IsWithin store → All (λ (def : TableDef). length (kinds_of def) ≤ 64) store.schema.catalog.tables
 all_few store within =
-    each-def IsHeldAs (λ (def : TableDef). length (kinds_of def) ≤ 64) 1 store.schema.tables store.tables.items
+    each-def IsHeldAs (λ (def : TableDef). length (kinds_of def) ≤ 64) 1 store.schema.catalog.tables store.tables.items
     (λ n def table held. subst (λ (kinds : List Kind). length kinds ≤ 64) (kinds_are n def table held.1) held.0.columns.most)
     within.tables
 
 -- what is planned is what an insert asks for
-pub insert_asks : (tables : List TableDef) (insert : Insert) (plan : Plan) (entries : ℕ → ℕ) → planned tables insert ≡ Ok plan → plan_wish plan tables entries ≡ insert_wish insert tables entries
-insert_asks tables insert plan entries is = sym (ap (λ (r : Result Plan Refusal). and_then r (λ p. plan_wish p tables entries)) is)
+pub insert_asks : (catalog : Catalog) (insert : Insert) (plan : Plan) (entries : ℕ → ℕ) → planned catalog insert ≡ Ok plan → plan_wish plan catalog entries ≡ insert_wish insert catalog entries
+insert_asks catalog insert plan entries is = sym (ap (λ (r : Result Plan Refusal). and_then r (λ p. plan_wish p catalog entries)) is)
 
 -- what is not planned is refused
-pub insert_refused : (store : Store) (insert : Insert) (refuses : Refusal) → planned store.schema.tables insert ≡ Err refuses → Asks (insert_wish insert) store (Err refuses)
-insert_refused store insert refuses is entries agree = ap (λ (r : Result Plan Refusal). and_then r (λ p. plan_wish p store.schema.tables entries)) is
+pub insert_refused : (store : Store) (insert : Insert) (refuses : Refusal) → planned store.schema.catalog insert ≡ Err refuses → Asks (insert_wish insert) store (Err refuses)
+insert_refused store insert refuses is entries agree = ap (λ (r : Result Plan Refusal). and_then r (λ p. plan_wish p store.schema.catalog entries)) is
 
 -- deliveries ask for no rows
 bring_tells_none : (plan : Plan) → TellsNone (Bring plan)
 bring_tells_none plan query same = cc same
 
 -- the first of the deliveries that are held goes to a table that stands, and so do all
-module _ (store : Store) (held : List HeldDelivery) (plan : Plan) (delivers : DeliversAll store.schema.tables held plan) (one : (table : ℕ) × All (λ (h : HeldDelivery). h.table ≡ table) held) (first : HeldDelivery) (some : 1 ≤ length held) where
+module _ (store : Store) (held : List HeldDelivery) (plan : Plan) (delivers : DeliversAll store.schema.catalog.tables held plan) (one : (table : ℕ) × All (λ (h : HeldDelivery). h.table ≡ table) held) (first : HeldDelivery) (some : 1 ≤ length held) where
   abbrev table : ℕ
   table = (get_or held 0 first).table
 
   same_tables : All (λ (d : Delivery). d.table ≡ table) plan
-  same_tables = let is : one.0 ≡ table = sym (one.1 0 first some) in subst (λ (n : ℕ). All (λ (d : Delivery). d.table ≡ n) plan) is (delivers-table store.schema.tables held plan one.0 delivers one.1)
+  same_tables = let is : one.0 ≡ table = sym (one.1 0 first some) in subst (λ (n : ℕ). All (λ (d : Delivery). d.table ≡ n) plan) is (delivers-table store.schema.catalog.tables held plan one.0 delivers one.1)
 
   pub many : length plan ≡ length held
-  many = delivers-length store.schema.tables held plan delivers
+  many = delivers-length store.schema.catalog.tables held plan delivers
 
-  first_stands : (held : List HeldDelivery) (plan : Plan) → DeliversAll store.schema.tables held plan → 1 ≤ length held → IsTable store (get_or held 0 first).table
+  first_stands : (held : List HeldDelivery) (plan : Plan) → DeliversAll store.schema.catalog.tables held plan → 1 ≤ length held → IsTable store (get_or held 0 first).table
   first_stands [] plan delivers some = absurd (omega (arith, some))
   first_stands (h ∷ held) [] delivers some = absurd delivers
   first_stands (h ∷ held) (d ∷ plan) delivers some =
-      let below = slice_get_within store.schema.tables (d.table - 1) delivers.0.def delivers.0.stands in
+      let below = slice_get_within store.schema.catalog.tables (d.table - 1) delivers.0.def delivers.0.stands in
       record { first = omega (arith, delivers.0.table, delivers.0.numbered); last = omega (arith, delivers.0.table, delivers.0.numbered, below) }
 
   pub stands : IsTable store table
@@ -99,7 +100,7 @@ module _ (store : Store) (held : List HeldDelivery) (plan : Plan) (delivers : De
 
 -- a store that holds the same is at the same moment
 pub same_at : (was is : Store) (old : Outside) (before : List ℕ) (m : Moment) → HoldsSame was is → IsAt was old before m → IsAt is old before m
-same_at was is old before m same at = record { lawful = at.lawful; tables = ap (λ s. s.tables) same.schema ∙ at.tables; holds = same.books old.files _ _ at.holds; text = at.text }
+same_at was is old before m same at = record { lawful = at.lawful; catalog = ap (λ s. s.catalog) same.schema ∙ at.catalog; holds = same.books old.files _ _ at.holds; text = at.text }
 
 -- room was made for them, and they were made
 module _ (tells : Type 0) (client : ℕ) (plan : Plan) (was mid is : Store) (old new : Outside) (same : HoldsSame was mid) where

@@ -1,5 +1,5 @@
 -- What a statement asks for that is built, by its form, and one that is not.
-use Rattle.std.proofs.Common.{◌≡◌, ◌≢◌, ℕ, List, Bool, true, false, not, Some, Err, refl, sym, ap, ◌∙◌}
+use Rattle.std.proofs.Common.{◌≡◌, ◌≢◌, ℕ, Bool, true, false, not, Some, Err, refl, sym, ap, ◌∙◌}
 use Rattle.std.proofs.lemmas.Bool.{false≢true}
 use Rattle.chv_ast.specs.declared.refusal.Refusal.TheVariants.{NotBuilt}
 use Rattle.chv_ast.specs.declared.statement.CreateTable.{CreateTable}
@@ -8,32 +8,32 @@ use Rattle.chv_ast.specs.declared.statement.Select.{Select}
 use Rattle.chv_ast.specs.declared.statement.ShowParts.{ShowParts}
 use Rattle.chv_ast.specs.declared.statement.Statement.{Statement}
 use Rattle.chv_ast.specs.declared.statement.Statement.TheVariants as statement
-use Rattle.chv_catalog.specs.declared.table_def.TableDef.{TableDef}
-use Rattle.chv_define.specs.Accepted.{is_built_table}
+use Rattle.chv_catalog.specs.Schemas.{Catalog}
+use Rattle.chv_query.specs.Accepted.{is_built_table}
 use Rattle.chv_types.specs.Steps.{refuse_if}
 use Rattle.chv_history.specs.Built.{is_built}
 use Rattle.chv_history.specs.Tasks.{built_task}
 use Rattle.chv_engine.specs.Answers.{create_wish, insert_wish, parts_wish, query_wish, statement_wish}
 
-module _ (asked : Statement) (tables : List TableDef) (entries : ℕ → ℕ) where
+module _ (asked : Statement) (catalog : Catalog) (entries : ℕ → ℕ) where
   -- one that is not is refused
-  pub known_unbuilt : is_built asked ≡ false → statement_wish (Some asked) tables entries ≡ Err NotBuilt
-  known_unbuilt unbuilt = ap (λ (b : Bool). refuse_if (not b) NotBuilt (built_task tables entries asked)) unbuilt
+  pub known_unbuilt : is_built asked ≡ false → statement_wish (Some asked) catalog entries ≡ Err NotBuilt
+  known_unbuilt unbuilt = ap (λ (b : Bool). refuse_if (not b) NotBuilt (built_task catalog entries asked)) unbuilt
 
-  known_built : is_built asked ≡ true → statement_wish (Some asked) tables entries ≡ built_task tables entries asked
-  known_built built = ap (λ (b : Bool). refuse_if (not b) NotBuilt (built_task tables entries asked)) built
+  known_built : is_built asked ≡ true → statement_wish (Some asked) catalog entries ≡ built_task catalog entries asked
+  known_built built = ap (λ (b : Bool). refuse_if (not b) NotBuilt (built_task catalog entries asked)) built
 
-  pub known_create : (made : CreateTable) → is_built asked ≡ true → asked ≡ statement.CreateTable made → create_wish made tables entries ≡ statement_wish (Some asked) tables entries
-  known_create made built is = sym (ap (built_task tables entries) is) ∙ sym (known_built built)
+  pub known_create : (made : CreateTable) → is_built asked ≡ true → asked ≡ statement.CreateTable made → create_wish made catalog entries ≡ statement_wish (Some asked) catalog entries
+  known_create made built is = sym (ap (built_task catalog entries) is) ∙ sym (known_built built)
 
-  pub known_insert : (brought : Insert) → is_built asked ≡ true → asked ≡ statement.Insert brought → insert_wish brought tables entries ≡ statement_wish (Some asked) tables entries
-  known_insert brought built is = sym (ap (built_task tables entries) is) ∙ sym (known_built built)
+  pub known_insert : (brought : Insert) → is_built asked ≡ true → asked ≡ statement.Insert brought → insert_wish brought catalog entries ≡ statement_wish (Some asked) catalog entries
+  known_insert brought built is = sym (ap (built_task catalog entries) is) ∙ sym (known_built built)
 
-  pub known_query : (query : Select) → is_built asked ≡ true → asked ≡ statement.Query query → query_wish query tables entries ≡ statement_wish (Some asked) tables entries
-  known_query query built is = sym (ap (built_task tables entries) is) ∙ sym (known_built built)
+  pub known_query : (query : Select) → is_built asked ≡ true → asked ≡ statement.Query query → query_wish query catalog entries ≡ statement_wish (Some asked) catalog entries
+  known_query query built is = sym (ap (built_task catalog entries) is) ∙ sym (known_built built)
 
-  pub known_parts : (parts : ShowParts) → is_built asked ≡ true → asked ≡ statement.ShowParts parts → parts_wish parts.table tables entries ≡ statement_wish (Some asked) tables entries
-  known_parts parts built is = sym (ap (built_task tables entries) is) ∙ sym (known_built built)
+  pub known_parts : (parts : ShowParts) → is_built asked ≡ true → asked ≡ statement.ShowParts parts → parts_wish parts.table catalog entries ≡ statement_wish (Some asked) catalog entries
+  known_parts parts built is = sym (ap (built_task catalog entries) is) ∙ sym (known_built built)
 
 -- a CREATE TABLE that is built is one that the catalog may have
 pub built_create : (asked : Statement) (made : CreateTable) → is_built asked ≡ true → asked ≡ statement.CreateTable made → is_built_table made ≡ true

@@ -3,6 +3,8 @@ use Rattle.std.proofs.Common.{◌≡◌, ◌≢◌, ℕ, ◌+◌, ◌-◌, ◌<�
 use Rattle.std.specs.List.{All}
 use Rattle.std.proofs.lemmas.List.Elements.{All-head}
 use Rattle.std.proofs.lemmas.Option.{get_or_from_slice_get, slice_get-map, slice_get_within}
+use Rattle.chv_catalog.proofs.SchemaLemmas.{same_tables}
+use Rattle.chv_catalog.specs.Schemas.{Catalog}
 use Rattle.chv_catalog.specs.declared.table_def.TableDef.{TableDef}
 use Rattle.chv_commit.specs.Commits.{commit_spelling, IsCommit}
 use Rattle.chv_commit.specs.Replays.{AreCommits, State, no_state, replayed}
@@ -10,7 +12,7 @@ use Rattle.chv_commit.specs.declared.commit.Commit.{Commit}
 use Rattle.chv_commit.specs.declared.part_row.PartRow.{PartRow}
 use Rattle.chv_commit.proofs.SoundLemmas.{All-front, All-behind, IsSound-no_state, IsSound-replayed}
 use Rattle.chv_commit.proofs.TakenLemmas.{AreCommits-unique}
-use Rattle.chv_define.specs.Accepted.{tables_of, catalog_payload}
+use Rattle.chv_query.specs.Accepted.{catalog_of, catalog_payload}
 use Rattle.chv_gate.specs.GateLog.{HasFrames}
 use Rattle.chv_gate.proofs.GateLogLemmas.{has_frames-IsReady, unique}
 use Rattle.chv_history.specs.Kept.{Kept, entries_kept, kept_answer}
@@ -68,13 +70,13 @@ state_at store place table at =
 
 -- each table's log says what is held of it
 abbrev SaysHeld : Store → Image → Type 0
-SaysHeld store files = (place : ℕ) (def : TableDef) → slice_get store.schema.tables place ≡ Some def → HasCommits files (place + 1) def.window (state_of store (place + 1))
+SaysHeld store files = (place : ℕ) (def : TableDef) → slice_get store.schema.catalog.tables place ≡ Some def → HasCommits files (place + 1) def.window (state_of store (place + 1))
 
-says_held : (store : Store) (files : Image) (P : ℕ → TableDef → Table → Type 0) → IsWithin store → EachTable P 1 store.schema.tables store.tables.items
+says_held : (store : Store) (files : Image) (P : ℕ → TableDef → Table → Type 0) → IsWithin store → EachTable P 1 store.schema.catalog.tables store.tables.items
     → ((number : ℕ) (def : TableDef) (table : Table) → IsHeldAs number def table → P number def table → HasCommits files number def.window (held_state table)) → SaysHeld store files
 says_held store files P within each says place def at =
     let Both = (λ (n : ℕ) (d : TableDef) (t : Table). IsHeldAs n d t × P n d t) in
-    let there = each-at Both 1 place store.schema.tables store.tables.items def (each-both IsHeldAs P 1 store.schema.tables store.tables.items within.tables each) at in
+    let there = each-at Both 1 place store.schema.catalog.tables store.tables.items def (each-both IsHeldAs P 1 store.schema.catalog.tables store.tables.items within.tables each) at in
     let here : 1 + place ≡ place + 1 = omega arith in
     subst (λ (n : ℕ). HasCommits files n def.window (state_of store (place + 1))) here
     (subst (HasCommits files (1 + place) def.window) (sym (state_at store place there.table there.stands)) (says (1 + place) def there.table there.holds.0 there.holds.1))
@@ -98,7 +100,7 @@ logged_says store files within logged =
 pub opened_undamaged : (store : Store) (old : Image) (new : FileId → FileState) → IsWithin store → OpensAs store old new → (tables : List TableDef) (damage : Damage) → IsOpening old tables damage → ⊥
 opened_undamaged store old new within opens =
     all_undamaged old opens.schema opens.has
-    (λ place def at. (state_of store (place + 1), opened_says store old new within opens place def (subst (λ (ts : List TableDef). slice_get ts place ≡ Some def) (sym opens.tables_are) at)))
+    (λ place def at. (state_of store (place + 1), opened_says store old new within opens place def (subst (λ (ts : List TableDef). slice_get ts place ≡ Some def) (sym (same_tables store.schema.catalog (catalog_of opens.schema) opens.catalog_is)) at)))
 
 -- a log says one thing
 same_states : (window : ℕ) (ps qs : List (List ℕ)) → ps ≡ qs → (x : AreCommits window ps) (y : AreCommits window qs) → x.state ≡ y.state
@@ -112,22 +114,22 @@ states_same files table window a b x y =
 -- so a store that was opened holds what its logs say
 pub opened_kept : (store : Store) (old : Image) (new : FileId → FileState) (kept : Kept) → IsWithin store → OpensAs store old new → HasKept old kept → HoldsKept store kept
 opened_kept store old new kept within opens has =
-    let tables : store.schema.tables ≡ kept.tables = opens.tables_are ∙ ap tables_of (schemas_same old opens.schema has.schema opens.has has.has) ∙ sym has.tables in
+    let catalog : store.schema.catalog ≡ kept.catalog = opens.catalog_is ∙ ap catalog_of (schemas_same old opens.schema has.schema opens.has has.has) ∙ sym has.catalog in
     record {
-      tables = tables;
+      catalog = catalog;
       states = λ table first last.
           let here : table - 1 + 1 ≡ table = omega (arith, first) in
-          let at = table_at kept.tables (table - 1) (omega (arith, first, last)) in
-          let mine = opened_says store old new within opens (table - 1) at.0 (subst (λ (ts : List TableDef). slice_get ts (table - 1) ≡ Some at.0) (sym tables) at.1) in
+          let at = table_at kept.catalog.tables (table - 1) (omega (arith, first, last)) in
+          let mine = opened_says store old new within opens (table - 1) at.0 (subst (λ (ts : List TableDef). slice_get ts (table - 1) ≡ Some at.0) (sym (same_tables store.schema.catalog kept.catalog catalog)) at.1) in
           subst (λ (n : ℕ). state_of store n ≡ kept.states n) here
           (states_same old (table - 1 + 1) at.0.window (state_of store (table - 1 + 1)) (kept.states (table - 1 + 1)) mine (has.states (table - 1) at.0 at.1));
     }
 
 -- and is asked for what they have
-kept_asks : (request : Request) (store : Store) (kept : Kept) → HoldsKept store kept → request_wish request store.schema.tables (λ other. (state_of store other).entries) ≡ kept_answer request kept
+kept_asks : (request : Request) (store : Store) (kept : Kept) → HoldsKept store kept → request_wish request store.schema.catalog (λ other. (state_of store other).entries) ≡ kept_answer request kept
 kept_asks request store kept holds =
-    ap (λ (ts : List TableDef). task_of ts (λ other. (state_of store other).entries) request.statement) holds.tables
-    ∙ task_agrees kept.tables (λ other. (state_of store other).entries) (entries_kept kept) request.statement (λ table first last. ap (λ (s : State). s.entries) (holds.states table first last))
+    ap (λ (catalog : Catalog). task_of catalog (λ other. (state_of store other).entries) request.statement) holds.catalog
+    ∙ task_agrees kept.catalog (λ other. (state_of store other).entries) (entries_kept kept) request.statement (λ table first last. ap (λ (s : State). s.entries) (holds.states table first last))
 
 -- live parts have numbers from 8 on
 parts_numbered : (files : Image) (table window : ℕ) (state : State) → HasCommits files table window state → All (λ (row : PartRow). 8 ≤ row.part) state.layout
@@ -154,16 +156,16 @@ damage_kept table form layout old new damage numbered same is =
 
 -- a part that the first request meets is met by the store that was opened
 pub opened_meets : (store : Store) (old now : Image) (new : FileId → FileState) (requests : List Request) (line : List ℕ) → IsWithin store → OpensAs store old new → ((f : FileId) → f.part ≢ 0 → now f ≡ old f)
-    → FirstMeets old requests line → (damage : Damage) × FirstAsks requests store now damage × (line ≡ line_of store.schema.tables damage)
+    → FirstMeets old requests line → (damage : Damage) × FirstAsks requests store now damage × (line ≡ line_of store.schema.catalog.tables damage)
 opened_meets store old now new [] line within opens same meets = absurd meets
 opened_meets store old now new (request ∷ requests) line within opens same meets =
     let kept = meets.kept in
     let holds = opened_kept store old new kept within opens meets.has in
     let table = meets.query.table in
     let def = meets.query.def in
-    let stands = rows_asked kept.tables (entries_kept kept) request.statement meets.query meets.asks in
+    let stands = rows_asked kept.catalog (entries_kept kept) request.statement meets.query meets.asks in
     let here : table - 1 + 1 ≡ table = omega (arith, stands.0) in
-    let below = slice_get_within kept.tables (table - 1) def stands.1 in
+    let below = slice_get_within kept.catalog.tables (table - 1) def stands.1 in
     let state = holds.states table stands.0 (omega (arith, stands.0, below)) in
     let has = subst (λ (n : ℕ). HasCommits old n def.window (kept.states n)) here (meets.has.states (table - 1) def stands.1) in
     let numbered = parts_numbered old table def.window (kept.states table) has in (
@@ -174,7 +176,7 @@ opened_meets store old now new (request ∷ requests) line within opens same mee
         is = subst (λ (s : State). IsPartDamage table (form_of def) s.layout now meets.damage) (sym state)
             (damage_kept table (form_of def) (kept.states table).layout old now meets.damage numbered (λ part high. same (part_of table part) (λ none. omega (arith, high, none))) meets.is);
       },
-      meets.told ∙ ap (λ (ts : List TableDef). line_of ts meets.damage) (sym holds.tables),
+      meets.told ∙ ap (λ (catalog : Catalog). line_of catalog.tables meets.damage) (sym holds.catalog),
     )
 
 -- the commits of each table that was opened, by its number
@@ -199,24 +201,24 @@ each_commits old new number (def ∷ defs) (table ∷ tables) each =
     )
 
 -- a store that was opened is logged, where no other table has a log
-pub opened_logged : (store : Store) (old new : FileId → FileState) → OpensAs store (λ f. (old f).bytes) new → ((table : ℕ) → length store.schema.tables < table → new (table_log table) ≡ old (table_log table))
+pub opened_logged : (store : Store) (old new : FileId → FileState) → OpensAs store (λ f. (old f).bytes) new → ((table : ℕ) → length store.schema.catalog.tables < table → new (table_log table) ≡ old (table_log table))
     → HasNoStrays old → IsLogged store new
 opened_logged store old new opens others none =
     let image : Image = λ f. (old f).bytes in
     record {
       schema = opens.schema;
       lawful = opens.has.lawful;
-      tables = opens.tables_are;
-      commits = commits_by image new 1 store.schema.tables store.tables.items opens.tables;
-      holds = record { catalog = opens.catalog; tables = each_commits image new 1 store.schema.tables store.tables.items opens.tables };
+      catalog = opens.catalog_is;
+      commits = commits_by image new 1 store.schema.catalog.tables store.tables.items opens.tables;
+      holds = record { catalog = opens.catalog; tables = each_commits image new 1 store.schema.catalog.tables store.tables.items opens.tables };
       others = λ table beyond.
-          let few = none opens.schema table opens.has (subst (λ (ts : List TableDef). length ts < table) opens.tables_are beyond) in
+          let few = none opens.schema table opens.has (subst (λ (catalog : Catalog). length catalog.tables < table) opens.catalog_is beyond) in
           subst (λ (s : FileState). s.most ≤ 1) (sym (others table beyond)) few;
     }
 
 -- of a store that is logged, what is held of a table are its live parts
-pub logged_live : (store : Store) (files : FileId → FileState) (table : ℕ) (def : TableDef) → IsWithin store → IsLogged store files → 1 ≤ table → slice_get store.schema.tables (table - 1) ≡ Some def
-    → AreLive (λ f. (files f).bytes) store.schema.tables table def (state_of store table).layout
+pub logged_live : (store : Store) (files : FileId → FileState) (table : ℕ) (def : TableDef) → IsWithin store → IsLogged store files → 1 ≤ table → slice_get store.schema.catalog.tables (table - 1) ≡ Some def
+    → AreLive (λ f. (files f).bytes) store.schema.catalog.tables table def (state_of store table).layout
 logged_live store files table def within logged first at =
     let here : table - 1 + 1 ≡ table = omega (arith, first) in
     let texts = map catalog_payload logged.schema in
@@ -226,7 +228,7 @@ logged_live store files table def within logged first at =
         lawful = logged.lawful;
         frames = subst (λ (f : FileId). HasFrames texts (files f).bytes) within.catalog (has_frames-IsReady store.catalog.gate texts (files store.catalog.file) logged.holds.catalog);
       };
-      tables_are = logged.tables;
+      tables_are = same_tables store.schema.catalog (catalog_of logged.schema) logged.catalog;
       state = state_of store table;
       commits = subst (λ (n : ℕ). HasCommits (λ f. (files f).bytes) n def.window (state_of store n)) here (logged_says store files within logged (table - 1) def at);
       layout_is = refl;

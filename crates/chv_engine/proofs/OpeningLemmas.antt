@@ -1,8 +1,9 @@
 -- Which damage is met as a store is opened, and where there is none.
 use Rattle.std.proofs.Common.{◌≡◌, ◌⊎◌, inl, inr, ℕ, ◌+◌, ◌<◌, List, [], map, slice_get, Some, refl, sym, ap, ap₂, subst, ◌∙◌, arith}
+use Rattle.chv_catalog.proofs.SchemaLemmas.{same_tables}
 use Rattle.chv_catalog.specs.declared.table_def.TableDef.{TableDef}
 use Rattle.chv_commit.specs.Commits.{commit_spelling}
-use Rattle.chv_define.specs.Accepted.{Accepted, AreTexts, tables_of, catalog_payload}
+use Rattle.chv_query.specs.Accepted.{Accepted, AreTexts, catalog_of, tables_of, catalog_payload}
 use Rattle.chv_gate.specs.GateLog.{HasFrames}
 use Rattle.chv_gate.specs.Reading.{IsDamagedAt}
 use Rattle.chv_gate.proofs.DamageLaws.{damage_unique, damage_excludes}
@@ -110,4 +111,4 @@ standing_undamaged files history stands =
 pub kept_undamaged : (files : Image) (kept : Kept) → HasKept files kept → (tables : List TableDef) (damage : Damage) → IsOpening files tables damage → ⊥
 kept_undamaged files kept has =
     all_undamaged files has.schema has.has
-    (λ place def at. (kept.states (place + 1), has.states place def (subst (λ (ts : List TableDef). slice_get ts place ≡ Some def) (sym has.tables) at)))
+    (λ place def at. (kept.states (place + 1), has.states place def (subst (λ (ts : List TableDef). slice_get ts place ≡ Some def) (sym (same_tables kept.catalog (catalog_of has.schema) has.catalog)) at)))

@@ -7,7 +7,8 @@ use Rattle.std.proofs.lemmas.List.{map-append, take-append-drop}
 use Rattle.std.proofs.lemmas.List.Elements.{All-cons, All-head, All-nil, All-tail}
 use Rattle.chv_catalog.specs.declared.table_def.TableDef.{TableDef}
 use Rattle.chv_commit.specs.Replays.{MAX_ENTRIES}
-use Rattle.chv_plan.specs.Plans.{Delivery, Delivers as IsHeldDelivery, DeliversAll}
+use Rattle.chv_query.specs.Plans.{Delivery}
+use Rattle.chv_plan.specs.Deliveries.{Delivers as IsHeldDelivery, DeliversAll}
 use Rattle.chv_plan.specs.declared.delivery.Delivery.{Delivery as HeldDelivery}
 use Rattle.chv_site.specs.During.{During}
 use Rattle.chv_site.specs.Images.{Image, IsLeft}

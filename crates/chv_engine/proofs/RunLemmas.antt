@@ -5,8 +5,9 @@ use Rattle.std.proofs.lemmas.Option.{slice_get_within}
 use Rattle.chv_ast.specs.declared.refusal.Refusal.{Refusal}
 use Rattle.chv_ast.specs.declared.statement.Select.{Select}
 use Rattle.chv_ast.specs.declared.statement.Statement.{Statement}
+use Rattle.chv_catalog.specs.Schemas.{Catalog}
 use Rattle.chv_catalog.specs.declared.table_def.TableDef.{TableDef}
-use Rattle.chv_define.specs.Accepted.{catalog_payload}
+use Rattle.chv_query.specs.Accepted.{catalog_payload}
 use Rattle.chv_history.specs.Crashes.{IsLeftBy}
 use Rattle.chv_history.specs.Events.{Moment, behind}
 use Rattle.chv_history.specs.Histories.{book_of}
@@ -45,8 +46,8 @@ use Rattle.chv_engine.proofs.AnswerLemmas.{held_at, moment_left, same_files}
 abbrev pub StandsAt : List TableDef → Asked → Type 0
 StandsAt tables query = (1 ≤ query.table) × (slice_get tables (query.table - 1) ≡ Some query.def)
 
-query_stands : (tables : List TableDef) (select : Select) (query : Asked) → asked tables select ≡ Ok query → StandsAt tables query
-query_stands tables select query asks = let found = asked_stands tables select query asks in (found.first, found.stands)
+query_stands : (catalog : Catalog) (select : Select) (query : Asked) → asked catalog select ≡ Ok query → StandsAt catalog.tables query
+query_stands catalog select query asks = let found = asked_stands catalog select query asks in (found.first, found.stands)
 
 -- where rows are asked for, they are those of a table that stands
 abbrev TellsTable : List TableDef → Task → Type 0
@@ -56,16 +57,16 @@ TellsTable tables (TellRows query) = StandsAt tables query
 TellsTable tables (TellParts table def) = Unit {0}
 
 -- a query that is asked is of a table that stands
-pub rows_asked : (tables : List TableDef) (entries : ℕ → ℕ) (text : Option Statement) (query : Asked) → task_of tables entries text ≡ Ok (TellRows query) → StandsAt tables query
-rows_asked tables entries text query asks =
-    subst (λ (task : Result Task Refusal). IfOk task (TellsTable tables)) asks
-    (task_holds tables entries (TellsTable tables) (query_stands tables) (λ table def. tt) text (λ made is def built defines. tt) (λ brought is plan brings room. tt))
+pub rows_asked : (catalog : Catalog) (entries : ℕ → ℕ) (text : Option Statement) (query : Asked) → task_of catalog entries text ≡ Ok (TellRows query) → StandsAt catalog.tables query
+rows_asked catalog entries text query asks =
+    subst (λ (task : Result Task Refusal). IfOk task (TellsTable catalog.tables)) asks
+    (task_holds catalog entries (TellsTable catalog.tables) (query_stands catalog) (λ table def. tt) text (λ made is def built defines. tt) (λ brought is plan brings room. tt))
 
 -- the damage that a request meets is of a table that stands
 pub meets_held : (request : Request) (store : Store) (outside : Outside) (damage : Damage) → IsWithin store
     → MeetsDamage (request_wish request) store (bytes_in outside) damage → IsHeldDamage store outside damage
 meets_held request store outside damage within meets =
-    let stands = rows_asked store.schema.tables (λ other. (state_of store other).entries) request.statement meets.query meets.asks in
+    let stands = rows_asked store.schema.catalog (λ other. (state_of store other).entries) request.statement meets.query meets.asks in
     record { within = within; table = meets.query.table; def = meets.query.def; first = stands.0; stands = stands.1; is = meets.is }
 
 -- what holds of a store and of damage holds as long as the files are as they were
@@ -87,7 +88,7 @@ damage_kept store old new damage kept held = record {
 -- at a moment no live part of a store's tables is damaged
 pub none_damaged : (store : Store) (outside : Outside) (before : List ℕ) (m : Moment) (damage : Damage) → IsAt store outside before m → IsHeldDamage store outside damage → ⊥
 none_damaged store outside before m damage at is =
-    let last = slice_get_within store.schema.tables (is.table - 1) is.def is.stands in
+    let last = slice_get_within store.schema.catalog.tables (is.table - 1) is.def is.stands in
     let there = held_at store is.table is.within (record { first = is.first; last = omega (arith, is.first, last) }) in
     let book = its_book store is.table there.0 there.1 outside.files (map catalog_payload m.history.schema) (book_of m.history) at.holds in
     part_damage_excludes is.table (form_of is.def) (state_of store is.table).layout (bytes_in outside) damage is.is
@@ -313,8 +314,8 @@ damaged_or_not NoMemory = inr not_memory
 
 -- a fault ended the run, and was told
 module _ (tells same : Type 0) (requests : List Request) (fault ends : RunFault) (was is : Store) (old between new : Outside)
-    (all : AnswersAll tells requests (Err fault) was is old between) (told : TellsFault tells same is.schema.tables fault ends between new) (as_was : same → new ≡ between) where
-  told_met : (t : tells) (damage : Damage) (f : RunFault) → ends ≡ f → MeetsFirst damage (Err fault) was is old between → TellsOrFails (Err f) old.said new.said (line_of was.schema.tables damage)
+    (all : AnswersAll tells requests (Err fault) was is old between) (told : TellsFault tells same is.schema.catalog.tables fault ends between new) (as_was : same → new ≡ between) where
+  told_met : (t : tells) (damage : Damage) (f : RunFault) → ends ≡ f → MeetsFirst damage (Err fault) was is old between → TellsOrFails (Err f) old.said new.said (line_of was.schema.catalog.tables damage)
   told_met t damage Disk same met = tt
   told_met t damage Say same met = tt
   told_met t damage NoMemory same met = tt
@@ -322,9 +323,9 @@ module _ (tells same : Type 0) (requests : List Request) (fault ends : RunFault)
       let line = told.told t other same in
       let first : MeetsFirst damage (Err (Damaged other)) was is old between = subst (λ (f : RunFault). MeetsFirst damage (Err f) was is old between) line.0 met in
       line.1
-      ∙ ap (λ (said : List ℕ). said ++ line_of is.schema.tables other) first.2
-      ∙ ap (λ (s : Store). old.said ++ line_of s.schema.tables other) first.1
-      ∙ ap (λ (d : Damage). old.said ++ line_of was.schema.tables d) first.0
+      ∙ ap (λ (said : List ℕ). said ++ line_of is.schema.catalog.tables other) first.2
+      ∙ ap (λ (s : Store). old.said ++ line_of s.schema.catalog.tables other) first.1
+      ∙ ap (λ (d : Damage). old.said ++ line_of was.schema.catalog.tables d) first.0
 
   told_counts : CountsRun {T = Bool} (Err ends) old new
   told_counts = elim (damaged_or_not fault) as (λ _. CountsRun {T = Bool} (Err ends) old new) [

@@ -11,7 +11,7 @@ use Rattle.chv_ast.specs.declared.statement.Select.{Select}
 use Rattle.chv_catalog.specs.declared.table_def.TableDef.{TableDef}
 use Rattle.chv_commit.specs.Replays.{State, span_of}
 use Rattle.chv_commit.specs.declared.part_row.PartRow.{PartRow}
-use Rattle.chv_define.specs.Accepted.{catalog_payload}
+use Rattle.chv_query.specs.Accepted.{catalog_payload}
 use Rattle.chv_part.specs.Books.{TableForm, Book, normal_rows, part_rows, rows_in}
 use Rattle.chv_part.specs.Forms.{form_of}
 use Rattle.chv_part.specs.Standing.{IsPart}
@@ -79,7 +79,7 @@ parts_text-held client table files book held =
     ap₂ (λ (lines : List (List Value)) (count : ℕ). rows_text part_kinds lines ++ rows_line client count) told (sym (length-map rows span_of) ∙ sym (ap length held.describes.layout))
 
 -- so what a store holds of a table's parts tells those of the moment at which it is
-parts_at : (client table : ℕ) (def : TableDef) (store : Store) (outside : Outside) (before : List ℕ) (m : Moment) → IsWithin store → IsTable store table → slice_get store.schema.tables (table - 1) ≡ Some def
+parts_at : (client table : ℕ) (def : TableDef) (store : Store) (outside : Outside) (before : List ℕ) (m : Moment) → IsWithin store → IsTable store table → slice_get store.schema.catalog.tables (table - 1) ≡ Some def
     → IsAt store outside before m → told_text client (state_of store table).layout ≡ parts_text client (form_of def) (book_of m.history table)
 parts_at client table def store outside before m within is stands at =
     let held = held_at store table within is in
@@ -93,10 +93,10 @@ other_task table def query same = absurd (cc same)
 
 -- the parts of the table of a name are told
 pub parts_answers : (tells : Type 0) (client : ℕ) (name text : List ℕ) (parts : List PartRow) (number : ℕ) (result : Result Bool RunFault) (store : Store) (old new : Outside) → IsUsable tells store old
-    → IsNamed store.schema.tables name number → text ≡ told_text client parts → parts ≡ (state_of store number).layout → Replies tells text false result old new → Answers tells client (parts_wish name) result store store old new
+    → IsNamed store.schema.catalog name number → text ≡ told_text client parts → parts ≡ (state_of store number).layout → Replies tells text false result old new → Answers tells client (parts_wish name) result store store old new
 parts_answers tells client name text parts number result store old new usable named text_is parts_are replies =
     let is : IsTable store number = record { first = named.first; last = named.last } in
-    let asked : parts_wish name store.schema.tables (entries_held store) ≡ Ok (TellParts number named.def) = ap (λ (found : Result (ℕ × TableDef) Refusal). and_then found (λ f. Ok (TellParts f.0 f.1))) named.is in
+    let asked : parts_wish name store.schema.catalog (entries_held store) ≡ Ok (TellParts number named.def) = ap (λ (found : Result (ℕ × TableDef) Refusal). and_then found (λ f. Ok (TellParts f.0 f.1))) named.is in
     replied_answers tells client (parts_wish name) (Ok (TellParts number named.def)) text false result store store old new usable (holds_itself store usable.within) (λ entries agree. asked) (λ kept. refl) refl
     (λ tell before m at. ap (λ (l : List ℕ). Replied l [] false ∷ []) (sym (text_is ∙ ap (told_text client) parts_are ∙ parts_at client number named.def store old before m usable.within is named.stands at)))
     (λ tell damage meets. other_task number named.def meets.query (sym asked ∙ meets.asks)) replies
@@ -111,18 +111,18 @@ unfolding query_text
 text_refused client query rows is = ap (λ (b : Bool). if b then refused_line client DivisionByZero else shown_text client query rows) is
 
 -- a query that no check refuses is of a table of the store
-pub asked_of_store : (store : Store) (select : Select) (query : Asked) → asked store.schema.tables select ≡ Ok query → IsOfStore store query
-asked_of_store store select query asks = let found = asked_stands store.schema.tables select query asks in record { first = found.first; stands = found.stands }
+pub asked_of_store : (store : Store) (select : Select) (query : Asked) → asked store.schema.catalog select ≡ Ok query → IsOfStore store query
+asked_of_store store select query asks = let found = asked_stands store.schema.catalog select query asks in record { first = found.first; stands = found.stands }
 
 -- the table of such a query stands
 pub query_table : (store : Store) (query : Asked) (number : ℕ) → number ≡ query.table → IsOfStore store query → IsTable store number
 query_table store query number same of_store =
-    let last = slice_get_within store.schema.tables (query.table - 1) query.def of_store.stands in
+    let last = slice_get_within store.schema.catalog.tables (query.table - 1) query.def of_store.stands in
     record { first = omega (arith, same, of_store.first); last = omega (arith, same, of_store.first, last) }
 
 -- the rows of a query that no check refuses are asked for
 abbrev pub rows_wish : Asked → Wish
-rows_wish query tables entries = Ok (TellRows query)
+rows_wish query catalog entries = Ok (TellRows query)
 
 one_query : (a b : Asked) → ◌≡◌ {A = Result Task Refusal} (Ok (TellRows a)) (Ok (TellRows b)) → a ≡ b
 one_query a b same = cc
@@ -159,8 +159,8 @@ module _ (tells failed : Type 0) (text : List ℕ) (mark : Bool) (result : Resul
 -- the rows of a query are asked for, of the table of this number
 module _ (tells failed : Type 0) (client : ℕ) (query : Asked) (number : ℕ) (store : Store) (old mid : Outside) (usable : IsUsable tells store old) (table_is : number ≡ query.table) (of_store : IsOfStore store query)
     (reads : OnlyReads tells failed old mid) where
-  stands : slice_get store.schema.tables (number - 1) ≡ Some query.def
-  stands = subst (λ (n : ℕ). slice_get store.schema.tables (n - 1) ≡ Some query.def) (sym table_is) of_store.stands
+  stands : slice_get store.schema.catalog.tables (number - 1) ≡ Some query.def
+  stands = subst (λ (n : ℕ). slice_get store.schema.catalog.tables (n - 1) ≡ Some query.def) (sym table_is) of_store.stands
 
   -- a damage of its parts
   abbrev IsDamage : ℕ → Asked → Damage → Type 0
@@ -173,8 +173,8 @@ module _ (tells failed : Type 0) (client : ℕ) (query : Asked) (number : ℕ) (
 
   -- they are told, or the answer is that a divisor is zero
   pub rows_answers : (text : List ℕ) (mark : Bool) (rows : List (List Value)) (result : Result Bool RunFault) (new : Outside) → (failed → ⊥)
-      → (tells → (def : TableDef) → slice_get store.schema.tables (number - 1) ≡ Some def → (payloads : List (List ℕ)) (books : ℕ → Book) → HoldsBooks store old.files payloads books → rows ≡ normal_rows (form_of def) (rows_in (books number)))
-      → (tells → (def : TableDef) → slice_get store.schema.tables (number - 1) ≡ Some def → ArePartsWhole number (form_of def) (state_of store number).layout (bytes_in old))
+      → (tells → (def : TableDef) → slice_get store.schema.catalog.tables (number - 1) ≡ Some def → (payloads : List (List ℕ)) (books : ℕ → Book) → HoldsBooks store old.files payloads books → rows ≡ normal_rows (form_of def) (rows_in (books number)))
+      → (tells → (def : TableDef) → slice_get store.schema.catalog.tables (number - 1) ≡ Some def → ArePartsWhole number (form_of def) (state_of store number).layout (bytes_in old))
       → text ≡ query_text client query rows → divides query rows ≡ mark → Replies tells text mark result mid new → Answers tells client (rows_wish query) result store store old new
   rows_answers text mark rows result new works read whole text_is mark_is replies =
       replied_answers tells client (rows_wish query) (Ok (TellRows query)) text mark result store store old new usable (holds_itself store usable.within) (λ entries agree. refl) (λ kept. refl)
@@ -194,7 +194,7 @@ module _ (tells failed : Type 0) (client : ℕ) (query : Asked) (number : ℕ) (
 
   -- or they are not read
   pub unread_answers : (fault : TableFault) → (fault ≡ table_fault.Failed → failed) → (failed → fault ≡ table_fault.Failed)
-      → (tells → (damage : Damage) → fault ≡ table_fault.Damaged damage → (def : TableDef) → slice_get store.schema.tables (number - 1) ≡ Some def → IsPartDamage number (form_of def) (state_of store number).layout (bytes_in old) damage)
+      → (tells → (damage : Damage) → fault ≡ table_fault.Damaged damage → (def : TableDef) → slice_get store.schema.catalog.tables (number - 1) ≡ Some def → IsPartDamage number (form_of def) (state_of store number).layout (bytes_in old) damage)
       → Answers tells client (rows_wish query) (Err (table_fault_of fault)) store store old mid
   unread_answers table_fault.Failed to from damaged =
       failed_answers tells client (rows_wish query) store store old mid usable.within reads.during Disk (λ damage same. absurd (cc same))

@@ -7,10 +7,11 @@ use Rattle.chv_ast.specs.declared.statement.Insert.{Insert}
 use Rattle.chv_ast.specs.declared.statement.Select.{Select}
 use Rattle.chv_ast.specs.declared.statement.Statement.{Statement}
 use Rattle.chv_ast.specs.declared.statement.Statement.TheVariants as statement
+use Rattle.chv_catalog.specs.Schemas.{Catalog}
 use Rattle.chv_catalog.specs.declared.table_def.TableDef.{TableDef}
 use Rattle.chv_commit.specs.declared.commit.Commit.{Commit}
-use Rattle.chv_define.specs.Accepted.{Accepted, Table, tables_of, IsSchema, catalog_payload}
-use Rattle.chv_define.specs.Definitions.{defined}
+use Rattle.chv_query.specs.Accepted.{Accepted, Table, catalog_of, IsSchema, catalog_payload}
+use Rattle.chv_query.specs.Definitions.{defined}
 use Rattle.chv_types.specs.Steps.{and_then, refuse_if}
 use Rattle.chv_history.specs.Crashes.{IsLeftBy}
 use Rattle.chv_history.specs.Events.{Event, Plan, Moment, behind}
@@ -22,7 +23,7 @@ use Rattle.chv_history.specs.Tasks.{Task, Make, Bring, TellRows, TellParts, has_
 use Rattle.chv_part.specs.Forms.{form_of}
 use Rattle.chv_part.specs.declared.damage.Damage.{Damage}
 use Rattle.chv_query.specs.Tables.{table_of}
-use Rattle.chv_plan.specs.Plans.{planned}
+use Rattle.chv_query.specs.Plans.{planned}
 use Rattle.chv_query.specs.Queries.{Asked, asked}
 use Rattle.chv_site.specs.During.{During}
 use Rattle.chv_site.specs.FileIds.{table_log}
@@ -40,22 +41,22 @@ use Rattle.chv_engine.specs.Telling.{TellsOrFails}
 use Rattle.chv_engine.specs.declared.fault.RunFault.{RunFault}
 use Rattle.chv_engine.specs.declared.fault.RunFault.TheVariants.{Damaged}
 
--- what a client asks for: a task, or a refusal, beside the tables that stand and their numbers of entries
+-- what a client asks for: a task, or a refusal, beside what is defined and the tables' numbers of entries
 abbrev pub Wish : Type 0
-Wish = List TableDef → (ℕ → ℕ) → Result Task Refusal
+Wish = Catalog → (ℕ → ℕ) → Result Task Refusal
 
 -- the events of what a client asks for
 abbrev pub wish_events : ℕ → Wish → History → List Event
-wish_events client wish history = answer_events client (wish (tables_of history.schema) (entries_in history)) history
+wish_events client wish history = answer_events client (wish (catalog_of history.schema) (entries_in history)) history
 
 -- what is asked for, beside what is held
 abbrev pub wish_in : Wish → Kept → Result Task Refusal
-wish_in wish kept = wish kept.tables (λ table. (kept.states table).entries)
+wish_in wish kept = wish kept.catalog (λ table. (kept.states table).entries)
 
 -- a store, with what is outside, is at a moment; `before` is the text said before the run
 pub record IsAt (store : Store) (outside : Outside) (before : List ℕ) (m : Moment) : Type 0 where
   pub lawful : IsLawful m.history
-  pub tables : store.schema.tables ≡ tables_of m.history.schema
+  pub catalog : store.schema.catalog ≡ catalog_of m.history.schema
   pub holds : HoldsBooks store outside.files (map catalog_payload m.history.schema) (book_of m.history)
   pub text : outside.said ≡ before ++ m.said
 
@@ -64,25 +65,25 @@ pub record AnswersAs (store : Store) (outside : Outside) (before : List ℕ) (re
   pub at : IsAt store outside before (behind events m)
   pub mark : (behind events m).refused ≡ (m.refused || refused)
 
--- a store has these tables, and holds of the log of each what it says
+-- a store has these definitions, and holds of the log of each table what it says
 pub record HoldsKept (store : Store) (kept : Kept) : Type 0 where
-  pub tables : store.schema.tables ≡ kept.tables
-  pub states : (table : ℕ) → 1 ≤ table → table ≤ length kept.tables → state_of store table ≡ kept.states table
+  pub catalog : store.schema.catalog ≡ kept.catalog
+  pub states : (table : ℕ) → 1 ≤ table → table ≤ length kept.catalog.tables → state_of store table ≡ kept.states table
 
 -- a store with its files holds what its logs say, whatever the parts are, and no other table has a log of which a crash
 -- leaves more than a torn gate
 pub record IsLogged (store : Store) (files : FileId → FileState) : Type 0 where
   pub schema : List Accepted
   pub lawful : IsSchema schema
-  pub tables : store.schema.tables ≡ tables_of schema
+  pub catalog : store.schema.catalog ≡ catalog_of schema
   pub commits : ℕ → List Commit
   pub holds : HoldsLogs store files (map catalog_payload schema) commits
-  pub others : (table : ℕ) → length store.schema.tables < table → (files (table_log table)).most ≤ 1
+  pub others : (table : ℕ) → length store.schema.catalog.tables < table → (files (table_log table)).most ≤ 1
 
 -- a query is asked that no check refuses, and this damage is that of the first damaged one of the live parts of its table
 pub record MeetsDamage (wish : Wish) (store : Store) (files : Image) (damage : Damage) : Type 0 where
   pub query : Asked
-  pub asks : wish store.schema.tables (λ other. (state_of store other).entries) ≡ Ok (TellRows query)
+  pub asks : wish store.schema.catalog (λ other. (state_of store other).entries) ≡ Ok (TellRows query)
   pub is : IsPartDamage query.table (form_of query.def) (state_of store query.table).layout files damage
 
 -- this damage ends the run, unless another fault does
@@ -124,31 +125,31 @@ pub record Answers (tells : Type 0) (client : ℕ) (wish : Wish) (result : Resul
 
 -- the rows of a query are asked for
 abbrev pub query_wish : Select → Wish
-query_wish select tables entries = and_then (asked tables select) (λ query. Ok (TellRows query))
+query_wish select catalog entries = and_then (asked catalog select) (λ query. Ok (TellRows query))
 
 -- a query is of a table of the store
 pub record IsOfStore (store : Store) (query : Asked) : Type 0 where
   pub first : 1 ≤ query.table
-  pub stands : slice_get store.schema.tables (query.table - 1) ≡ Some query.def
+  pub stands : slice_get store.schema.catalog.tables (query.table - 1) ≡ Some query.def
 
 -- the parts of the table of a name are asked for
 abbrev pub parts_wish : List ℕ → Wish
-parts_wish name tables entries = and_then (table_of tables name) (λ found. Ok (TellParts found.0 found.1))
+parts_wish name catalog entries = and_then (table_of catalog name) (λ found. Ok (TellParts found.0 found.1))
 
 -- a CREATE statement asks for its table
 abbrev pub create_wish : CreateTable → Wish
-create_wish made tables entries = and_then (defined tables made) (λ def. Ok (Make (record { statement = statement.CreateTable made; definition = Table def })))
+create_wish made catalog entries = and_then (defined catalog made) (λ def. Ok (Make (record { statement = statement.CreateTable made; definition = Table def })))
 
 -- an INSERT asks for deliveries for which there is room
 abbrev pub plan_wish : Plan → Wish
-plan_wish plan tables entries = refuse_if (not (has_room plan entries)) LimitPassed (Ok (Bring plan))
+plan_wish plan catalog entries = refuse_if (not (has_room plan entries)) LimitPassed (Ok (Bring plan))
 
 abbrev pub insert_wish : Insert → Wish
-insert_wish insert tables entries = and_then (planned tables insert) (λ plan. plan_wish plan tables entries)
+insert_wish insert catalog entries = and_then (planned catalog insert) (λ plan. plan_wish plan catalog entries)
 
 -- a statement, or a text that is none, asks for its task
 abbrev pub statement_wish : Option Statement → Wish
-statement_wish asked tables entries = task_of tables entries asked
+statement_wish asked catalog entries = task_of catalog entries asked
 
 abbrev pub request_wish : Request → Wish
 request_wish request = statement_wish request.statement
@@ -171,7 +172,7 @@ pub record IsHeldDamage (store : Store) (outside : Outside) (damage : Damage) : 
   pub table : ℕ
   pub def : TableDef
   pub first : 1 ≤ table
-  pub stands : slice_get store.schema.tables (table - 1) ≡ Some def
+  pub stands : slice_get store.schema.catalog.tables (table - 1) ≡ Some def
   pub is : IsPartDamage table (form_of def) (state_of store table).layout (bytes_in outside) damage
 
 -- requests were answered one after the other; as `Answers`, over all of them
@@ -191,7 +192,7 @@ pub record TellsHeld (was is : Store) (damage : Damage) (old new : Outside) : Ty
   pub held : IsHeldDamage is new damage
   pub logged : IsLogged was old.files → IsLogged is new.files
   pub text : List ℕ
-  pub ends : new.said ≡ text ++ line_of is.schema.tables damage
+  pub ends : new.said ≡ text ++ line_of is.schema.catalog.tables damage
 
 -- as `AnswersAll`, where damage that is met is told
 pub record RunsAll (tells : Type 0) (requests : List Request) (result : Result Bool RunFault) (was is : Store) (old new : Outside) : Type 0 where
@@ -200,6 +201,6 @@ pub record RunsAll (tells : Type 0) (requests : List Request) (result : Result B
   pub kept : IfOk result (λ refused. (kept : Kept) → HoldsKept was kept → Refuses requests kept refused)
   pub damaged : tells → (damage : Damage) → IsErrOf result (Damaged damage) → TellsHeld was is damage old new
   pub undamaged : tells → (before : List ℕ) (m : Moment) (damage : Damage) → IsAt was old before m → IsErrOf result (Damaged damage) → ⊥
-  pub met : tells → (damage : Damage) → FirstAsks requests was (bytes_in old) damage → TellsOrFails result old.said new.said (line_of was.schema.tables damage)
+  pub met : tells → (damage : Damage) → FirstAsks requests was (bytes_in old) damage → TellsOrFails result old.said new.said (line_of was.schema.catalog.tables damage)
   pub within : OnOk result (IsWithin is)
   pub counts : CountsRun result old new

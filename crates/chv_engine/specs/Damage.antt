@@ -3,7 +3,7 @@ use Rattle.std.specs.Prelude.{ℕ, zero, suc, ◌≡◌, ◌⊎◌, ◌-◌, ◌
 use Rattle.chv_catalog.specs.declared.table_def.TableDef.{TableDef}
 use Rattle.chv_commit.specs.Replays.{State}
 use Rattle.chv_commit.specs.declared.part_row.PartRow.{PartRow}
-use Rattle.chv_define.specs.Accepted.{Accepted, tables_of}
+use Rattle.chv_query.specs.Accepted.{Accepted, catalog_of, tables_of}
 use Rattle.chv_history.specs.Kept.{Kept, kept_answer}
 use Rattle.chv_history.specs.Script.{Request}
 use Rattle.chv_history.specs.Tasks.{TellRows}
@@ -78,8 +78,8 @@ pub record IsPartDamaged (sound : Type 0) (files : Image) (line : List ℕ) : Ty
 pub record HasKept (files : Image) (kept : Kept) : Type 0 where
   pub schema : List Accepted
   pub has : HasSchema files schema
-  pub tables : kept.tables ≡ tables_of schema
-  pub states : (place : ℕ) (def : TableDef) → slice_get kept.tables place ≡ Some def → HasCommits files (place + 1) def.window (kept.states (place + 1))
+  pub catalog : kept.catalog ≡ catalog_of schema
+  pub states : (place : ℕ) (def : TableDef) → slice_get kept.catalog.tables place ≡ Some def → HasCommits files (place + 1) def.window (kept.states (place + 1))
 
 -- no log is damaged, the first request is a query that no check refuses, and this line tells the first damaged one of the parts
 -- of its table
@@ -90,7 +90,7 @@ pub record MeetsPart (files : Image) (request : Request) (line : List ℕ) : Typ
   pub asks : kept_answer request kept ≡ Ok (TellRows query)
   pub damage : Damage
   pub is : IsPartDamage query.table (form_of query.def) (kept.states query.table).layout files damage
-  pub told : line ≡ line_of kept.tables damage
+  pub told : line ≡ line_of kept.catalog.tables damage
 
 -- the first of these requests meets a part that is damaged, and this line tells it
 abbrev pub FirstMeets : Image → List Request → List ℕ → Type 0

@@ -1,7 +1,7 @@
 // CREATE TABLE.
 ghost use Rattle.std.specs.Prelude.{◌≡◌, true};
 ghost use Rattle.chv_ast.specs.Formed.{FormedTable};
-ghost use Rattle.chv_define.specs.Accepted.{is_built_table};
+ghost use Rattle.chv_query.specs.Accepted.{is_built_table};
 ghost use Rattle.chv_store.specs.Openings.{MakesTable};
 ghost use Rattle.chv_store.specs.Stores.{IsUsable};
 ghost use Rattle.chv_engine.specs.Answers.{Answers, create_wish};
@@ -46,7 +46,7 @@ fn make<W: Site>(
     def: TableDef,
 ) -> Result<bool, RunFault>
     requires usable { IsUsable W.tells store.old (W.outside site.old) }
-    requires makes { MakesTable store.old.schema.tables (Statement.CreateTable made.now) def }
+    requires makes { MakesTable store.old.schema.catalog (Statement.CreateTable made.now) def }
     ensures { Answers W.tells client (create_wish made.now) result store.old store.new (W.outside site.old) (W.outside site.new) }
 {
     store.create(alloc, site, made, def)?;

@@ -2,7 +2,8 @@
 ghost use Rattle.std.specs.Prelude.{◌≡◌, ◌≤◌, ◌+◌, List, ℕ, [], ◌∷◌, length, IfOk, OnOk, IsErr};
 ghost use Rattle.std.specs.List.{All};
 ghost use Rattle.chv_ast.specs.Formed.{FormedInsert};
-ghost use Rattle.chv_plan.specs.Plans.{Delivery as Planned, Delivers as IsHeldAs, DeliversAll};
+ghost use Rattle.chv_query.specs.Plans.{Delivery as Planned};
+ghost use Rattle.chv_plan.specs.Deliveries.{Delivers as IsHeldAs, DeliversAll};
 ghost use Rattle.chv_site.specs.Faults.{CountsDisk};
 ghost use Rattle.chv_store.specs.Stores.{HasRoom, IsUsable};
 ghost use Rattle.chv_engine.specs.Answers.{Answers, insert_wish, plan_wish};
@@ -46,10 +47,10 @@ fn bring<W: Site>(
     plan: &[Delivery],
 ) -> Result<bool, RunFault>
     requires usable { IsUsable W.tells store.old (W.outside site.old) }
-    requires planned { (all : List Planned) × DeliversAll store.old.schema.tables plan.now all }
+    requires planned { (all : List Planned) × DeliversAll store.old.schema.catalog.tables plan.now all }
     requires one_table { (table : ℕ) × All (λ delivery. delivery.table ≡ table) plan.now }
     requires count { (1 ≤ length plan.now) × (length plan.now ≤ 1048576) }
-    ensures { (all : List Planned) → DeliversAll store.old.schema.tables plan.now all
+    ensures { (all : List Planned) → DeliversAll store.old.schema.catalog.tables plan.now all
         → Answers W.tells client (plan_wish all) result store.old store.new (W.outside site.old) (W.outside site.new) }
 {
     let count = plan.len() as u64;
@@ -65,9 +66,9 @@ fn bring<W: Site>(
 // Makes deliveries, all to one table that has room for them, one after the other; answers how many were written.
 fn deliver_all<W: Site>(site: &mut W, store: &mut Store, plan: &[Delivery]) -> Result<u64, Failed>
     requires usable { IsUsable W.tells store.old (W.outside site.old) }
-    requires planned { (all : List Planned) × DeliversAll store.old.schema.tables plan.now all }
+    requires planned { (all : List Planned) × DeliversAll store.old.schema.catalog.tables plan.now all }
     requires room { (table : ℕ) × HasRoom (length plan.now) store.old table × All (λ delivery. delivery.table ≡ table) plan.now }
-    ensures delivers { (all : List Planned) → DeliversAll store.old.schema.tables plan.now all
+    ensures delivers { (all : List Planned) → DeliversAll store.old.schema.catalog.tables plan.now all
         → Delivers W.tells all result store.old store.new (W.outside site.old) (W.outside site.new) }
     ensures counted { IfOk result (λ written. written ≤ length plan.now) }
     ensures usable { OnOk result (IsUsable W.tells store.new (W.outside site.new)) }
@@ -83,9 +84,9 @@ fn deliver_all<W: Site>(site: &mut W, store: &mut Store, plan: &[Delivery]) -> R
 // Makes a delivery; answers how many blocks were written, 1 or 0.
 fn deliver<W: Site>(site: &mut W, store: &mut Store, delivery: &Delivery) -> Result<u64, Failed>
     requires usable { IsUsable W.tells store.old (W.outside site.old) }
-    requires planned { (planned : Planned) × IsHeldAs store.old.schema.tables delivery.now planned }
+    requires planned { (planned : Planned) × IsHeldAs store.old.schema.catalog.tables delivery.now planned }
     requires room { HasRoom 1 store.old delivery.now.table }
-    ensures delivers { (planned : Planned) → IsHeldAs store.old.schema.tables delivery.now planned
+    ensures delivers { (planned : Planned) → IsHeldAs store.old.schema.catalog.tables delivery.now planned
         → Delivers W.tells (planned ∷ []) result store.old store.new (W.outside site.old) (W.outside site.new) }
     ensures counted { IfOk result (λ written. written ≤ 1) }
     ensures usable { OnOk result (IsUsable W.tells store.new (W.outside site.new)) }

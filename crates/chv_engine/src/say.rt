@@ -33,7 +33,7 @@ pub fn refuse<W: Site>(site: &mut W, client: u8, refusal: Refusal) -> Result<boo
 
 /// Where a fault is damage, says the line that tells it beside these tables. It answers the fault that ends the run.
 pub fn tell<W: Site>(alloc: Global, site: &mut W, schema: &Schema, fault: RunFault) -> RunFault
-    ensures { TellsFault W.tells (site.new ≡ site.old) schema.now.tables fault result (W.outside site.old) (W.outside site.new) }
+    ensures { TellsFault W.tells (site.new ≡ site.old) schema.now.catalog.tables fault result (W.outside site.old) (W.outside site.new) }
 {
     match fault {
         RunFault::Damaged(damage) => match say_damage(alloc, site, schema, damage) {
@@ -51,7 +51,7 @@ fn say_damage<W: Site>(
     schema: &Schema,
     damage: Damage,
 ) -> Result<bool, RunFault>
-    ensures { Replies W.tells (line_of schema.now.tables damage) true result (W.outside site.old) (W.outside site.new) }
+    ensures { Replies W.tells (line_of schema.now.catalog.tables damage) true result (W.outside site.old) (W.outside site.new) }
 {
     let line = damage_line(alloc, damage, name_of(schema, damage))?;
     reply(site, &line, true)
@@ -59,7 +59,7 @@ fn say_damage<W: Site>(
 
 // The name that goes with a damage: that of its table.
 fn name_of(schema: &Schema, damage: Damage) -> &[u8]
-    ensures { result.now ≡ name_of schema.now.tables damage }
+    ensures { result.now ≡ name_of schema.now.catalog.tables damage }
 {
     match damage {
         Damage::Catalog { .. } => &[],
@@ -71,7 +71,7 @@ fn name_of(schema: &Schema, damage: Damage) -> &[u8]
 
 // The name of the table of a number, where it stands.
 fn name_at(schema: &Schema, table: u32) -> &[u8]
-    ensures { result.now ≡ name_at schema.now.tables table }
+    ensures { result.now ≡ name_at schema.now.catalog.tables table }
 {
     if table == 0 || table > schema.tables() {
         return &[];

@@ -49,7 +49,7 @@ fn show<W: Site>(
     requires usable { IsUsable W.tells store.now (W.outside site.old) }
     requires prepared { (query : Asked) × IsPrepared prepared.now query × IsOfStore store.now query }
     ensures { (query : Asked) → IsPrepared prepared.now query → IsOfStore store.now query
-        → Answers W.tells client (λ tables entries. Ok (TellRows query)) result store.now store.now (W.outside site.old) (W.outside site.new) }
+        → Answers W.tells client (λ catalog entries. Ok (TellRows query)) result store.now store.now (W.outside site.old) (W.outside site.new) }
 {
     let rows = store.rows(alloc, site, prepared.table())?;
     match answer(alloc, prepared, rows) {

@@ -23,8 +23,8 @@ fn are_plain(columns: &[Column]) -> bool
 // A schema of one table, of at most 64 columns of plain kinds.
 #[tactic(auto, using(crate::proofs::PlainLemmas::plain_table, crate::proofs::PlainLemmas::few_table))]
 fn schema_of(alloc: Global, def: TableDef) -> Option<Schema>
-    ensures plain { IfSome result (λ schema. All (λ def. All IsPlain (kinds_of def)) schema.tables) }
-    ensures few { IfSome result (λ schema. All (λ def. length (kinds_of def) ≤ 64) schema.tables) }
+    ensures plain { IfSome result (λ schema. All (λ def. All IsPlain (kinds_of def)) schema.catalog.tables) }
+    ensures few { IfSome result (λ schema. All (λ def. length (kinds_of def) ≤ 64) schema.catalog.tables) }
 {
     if def.columns.len() > 64 || !are_plain(def.columns.as_slice()) {
         return None;
@@ -39,8 +39,8 @@ fn schema_of(alloc: Global, def: TableDef) -> Option<Schema>
 
 // The table `t`, sorted by its third column.
 fn one_table(alloc: Global) -> Option<Schema>
-    ensures plain { IfSome result (λ schema. All (λ def. All IsPlain (kinds_of def)) schema.tables) }
-    ensures few { IfSome result (λ schema. All (λ def. length (kinds_of def) ≤ 64) schema.tables) }
+    ensures plain { IfSome result (λ schema. All (λ def. All IsPlain (kinds_of def)) schema.catalog.tables) }
+    ensures few { IfSome result (λ schema. All (λ def. length (kinds_of def) ≤ 64) schema.catalog.tables) }
 {
     let text = b"CREATE TABLE t (a Int8, b Bool, c String, d UInt8) ENGINE = MergeTree ORDER BY c";
     match defined(alloc, &Schema::new(alloc), text) {
@@ -51,8 +51,8 @@ fn one_table(alloc: Global) -> Option<Schema>
 
 // What a text brings to a table; None where it is no INSERT.
 fn planned(alloc: Global, schema: &Schema, text: &[u8]) -> Option<Result<Plan, StatementFault>>
-    requires plain { All (λ def. All IsPlain (kinds_of def)) schema.now.tables }
-    requires few { All (λ def. length (kinds_of def) ≤ 64) schema.now.tables }
+    requires plain { All (λ def. All IsPlain (kinds_of def)) schema.now.catalog.tables }
+    requires few { All (λ def. length (kinds_of def) ≤ 64) schema.now.catalog.tables }
 {
     match statement_of(alloc, text) {
         Some(Statement::Insert(insert)) => Some(plan_insert(alloc, schema, &insert)),

@@ -38,7 +38,7 @@ pub fn defined(
 /// Takes a table, unless its name is taken; false where it is not taken.
 pub fn accept(alloc: Global, schema: &mut Schema, def: TableDef) -> bool {
     let name = def.name.as_slice();
-    if schema.taken(name) || schema.tables() >= 256 {
+    if schema.taken(name) || schema.definitions() >= 256 {
         return false;
     }
     if schema.reserve_one(alloc, name).is_err() {

@@ -27,7 +27,7 @@ returns-in-None g c =
     let store = c.args.store.now in
     let none : statement_in c.args.text.now ≡ None = sym c.in_ok-statement.ensures ∙ c.in-None.is in
     refused_answers g.W.Site.tells c.args.client (statement_wish (statement_in c.args.text.now)) Syntax c.refuse.result store store (g.W.Site.outside c.args.site.now) (g.W.Site.outside c.refuse.new.site) c.requires.usable
-    (holds_itself store c.requires.usable.within) (λ entries agree. ap (λ (s : Option Statement). statement_wish s store.schema.tables entries) none) c.refuse.ensures
+    (holds_itself store c.requires.usable.within) (λ entries agree. ap (λ (s : Option Statement). statement_wish s store.schema.catalog entries) none) c.refuse.ensures
 
 -- where there is no memory, nothing was done
 pub returns-in_err-statement : goal.returns-in_err-statement

@@ -11,7 +11,7 @@ returns-then-not-is_built g c =
     let store = c.args.store.now in
     let asked = c.args.statement.now in
     refused_answers g.W.Site.tells c.args.client (statement_wish (Some asked)) NotBuilt c.refuse.result store store (g.W.Site.outside c.args.site.now) (g.W.Site.outside c.refuse.new.site) c.requires.usable
-    (holds_itself store c.requires.usable.within) (λ entries agree. known_unbuilt asked store.schema.tables entries (sym c.is_built.ensures ∙ c.if-not-is_built.true)) c.refuse.ensures
+    (holds_itself store c.requires.usable.within) (λ entries agree. known_unbuilt asked store.schema.catalog entries (sym c.is_built.ensures ∙ c.if-not-is_built.true)) c.refuse.ensures
 
 pub create-requires-clause-built : goal.create-requires-clause-built
 create-requires-clause-built g c = built_create c.args.statement.now _ (sym c.is_built.ensures ∙ c.if-not-is_built.false) c.in-CreateTable.is
@@ -21,21 +21,21 @@ returns-in-CreateTable g c =
     let store = c.args.store.now in
     let asked = c.args.statement.now in
     same_wish g.W.Site.tells c.args.client (create_wish c.in-CreateTable.made) (statement_wish (Some asked)) c.create.result store c.create.new.store (g.W.Site.outside c.args.site.now) (g.W.Site.outside c.create.new.site)
-    (λ entries. known_create asked store.schema.tables entries _ (sym c.is_built.ensures ∙ c.if-not-is_built.false) c.in-CreateTable.is) c.create.ensures
+    (λ entries. known_create asked store.schema.catalog entries _ (sym c.is_built.ensures ∙ c.if-not-is_built.false) c.in-CreateTable.is) c.create.ensures
 
 pub returns-in-Insert : goal.returns-in-Insert
 returns-in-Insert g c =
     let store = c.args.store.now in
     let asked = c.args.statement.now in
     same_wish g.W.Site.tells c.args.client (insert_wish c.in-Insert.brought) (statement_wish (Some asked)) c.insert.result store c.insert.new.store (g.W.Site.outside c.args.site.now) (g.W.Site.outside c.insert.new.site)
-    (λ entries. known_insert asked store.schema.tables entries _ (sym c.is_built.ensures ∙ c.if-not-is_built.false) c.in-Insert.is) c.insert.ensures
+    (λ entries. known_insert asked store.schema.catalog entries _ (sym c.is_built.ensures ∙ c.if-not-is_built.false) c.in-Insert.is) c.insert.ensures
 
 pub returns-in-Query : goal.returns-in-Query
 returns-in-Query g c =
     let store = c.args.store.now in
     let asked = c.args.statement.now in
     same_wish g.W.Site.tells c.args.client (query_wish c.in-Query.asked) (statement_wish (Some asked)) c.select.result store store (g.W.Site.outside c.args.site.now) (g.W.Site.outside c.select.new.site)
-    (λ entries. known_query asked store.schema.tables entries _ (sym c.is_built.ensures ∙ c.if-not-is_built.false) c.in-Query.is) c.select.ensures
+    (λ entries. known_query asked store.schema.catalog entries _ (sym c.is_built.ensures ∙ c.if-not-is_built.false) c.in-Query.is) c.select.ensures
 
 pub returns-in-ShowParts : goal.returns-in-ShowParts
 returns-in-ShowParts g c =
@@ -43,8 +43,8 @@ returns-in-ShowParts g c =
     let asked = c.args.statement.now in
     same_wish g.W.Site.tells c.args.client (parts_wish c.as_slice.result.now) (statement_wish (Some asked)) c.show_parts.result store store (g.W.Site.outside c.args.site.now) (g.W.Site.outside c.show_parts.new.site)
     (λ entries.
-    ap (λ (name : List ℕ). parts_wish name store.schema.tables entries) c.as_slice.ensures
-    ∙ known_parts asked store.schema.tables entries _ (sym c.is_built.ensures ∙ c.if-not-is_built.false) c.in-ShowParts.is) c.show_parts.ensures
+    ap (λ (name : List ℕ). parts_wish name store.schema.catalog entries) c.as_slice.ensures
+    ∙ known_parts asked store.schema.catalog entries _ (sym c.is_built.ensures ∙ c.if-not-is_built.false) c.in-ShowParts.is) c.show_parts.ensures
 
 pub returns-in_default : goal.returns-in_default
 returns-in_default g c =

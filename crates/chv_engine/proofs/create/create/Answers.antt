@@ -1,7 +1,7 @@
 -- A CREATE is refused; or memory runs out before anything is done.
 use Rattle.std.proofs.Common.{◌≡◌, Err, subst}
 use Rattle.chv_catalog.specs.declared.schema.Schema.{Schema}
-use Rattle.chv_define.specs.Definitions.{defined}
+use Rattle.chv_query.specs.Definitions.{defined}
 use Rattle.chv_engine.specs.Answers.{create_wish}
 use Rattle.chv_engine.proofs.AnswerLemmas.{holds_itself, no_memory_answers, refused_answers}
 use Rattle.chv_engine.proofs.CreateLemmas.{create_refused}
@@ -12,8 +12,8 @@ returns-in-Err-Refused g c =
     let S = g.W.Site in
     let store = c.args.store.now in
     let refusal = c.in-Err-Refused.refusal in
-    let is : defined store.schema.tables c.args.made.now ≡ Err refusal =
-    subst (λ (schema : Schema). defined schema.tables c.args.made.now ≡ Err refusal) c.schema.ensures (c.in-Err-Refused.ensures.refused refusal c.in-Err-Refused.field-0-is) in
+    let is : defined store.schema.catalog c.args.made.now ≡ Err refusal =
+    subst (λ (schema : Schema). defined schema.catalog c.args.made.now ≡ Err refusal) c.schema.ensures (c.in-Err-Refused.ensures.refused refusal c.in-Err-Refused.field-0-is) in
     refused_answers S.tells c.args.client (create_wish c.args.made.now) refusal c.refuse.result store store (S.outside c.args.site.now) (S.outside c.refuse.new.site) c.requires.usable
     (holds_itself store c.requires.usable.within) (create_refused store c.args.made.now refusal is) (rw c.in-Err-Refused.refusal-is at c.refuse.ensures)
 

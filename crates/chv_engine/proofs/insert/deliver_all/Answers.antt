@@ -3,7 +3,7 @@ use Rattle.std.proofs.Common.{◌≡◌, ◌-◌, ◌+◌, ◌≤◌, ℕ, List,
 use Rattle.std.proofs.lemmas.Bool.{false≢true}
 use Rattle.std.proofs.lemmas.List.{take_all}
 use Rattle.std.proofs.lemmas.Option.{slice_get_read}
-use Rattle.chv_plan.specs.Plans.{Delivery as Planned}
+use Rattle.chv_query.specs.Plans.{Delivery as Planned}
 use Rattle.chv_plan.specs.declared.delivery.Delivery.{Delivery as HeldDelivery}
 use Rattle.chv_store.specs.Stores.{HasRoom}
 use Rattle.chv_engine.specs.Deliveries.{Delivers}
@@ -31,7 +31,7 @@ deliver-requires-clause-planned g c =
     let place = c.loop-delivery.delivery-index in
     let plan = c.args.plan.now in
     let there : slice_get plan place ≡ Some item = slice_get_read plan (length plan) place item refl c.loop-delivery-test.true c.delivery-item.is in
-    let at = delivers-at c.args.store.now.schema.tables plan c.requires.planned.0 place item c.requires.planned.1 there in
+    let at = delivers-at c.args.store.now.schema.catalog.tables plan c.requires.planned.0 place item c.requires.planned.1 there in
     (at.delivery, rw c.loop-delivery.invariant.schema at.delivers)
 
 pub deliver-requires-clause-room : goal.deliver-requires-clause-room
@@ -51,8 +51,8 @@ returns-in_err-written-clause-delivers g c = λ all delivers.
     let place = c.loop-delivery.delivery-index in
     let plan = c.args.plan.now in
     let there : slice_get plan place ≡ Some item = slice_get_read plan (length plan) place item refl c.loop-delivery-test.true c.delivery-item.is in
-    let next = delivers-at c.args.store.now.schema.tables plan all place item delivers there in
-    delivers_ended S.tells c.args.store.now.schema.tables item place all next c.args.store.now c.loop-delivery.store c.deliver.new.store
+    let next = delivers-at c.args.store.now.schema.catalog.tables plan all place item delivers there in
+    delivers_ended S.tells c.args.store.now.schema.catalog.tables item place all next c.args.store.now c.loop-delivery.store c.deliver.new.store
     (S.outside c.args.site.now) (S.outside c.loop-delivery.site) (S.outside c.deliver.new.site) c.loop-delivery.written (c.loop-delivery.invariant.made all delivers)
     c.deliver.result c.from_residual.result c.from_residual.ensures.0 (c.deliver.ensures.delivers next.delivery (rw c.loop-delivery.invariant.schema next.delivers))
 
@@ -73,8 +73,8 @@ loop-delivery-preserved g c =
           made.room table (length plan - (place + 1)) (subst (λ (n : ℕ). HasRoom n c.loop-delivery.store table) left (before.room table room));
       few = omega (arith, before.few, made.counted);
       made = λ all delivers.
-          let next = delivers-at c.args.store.now.schema.tables plan all place item delivers there in
-          delivers_next S.tells c.args.store.now.schema.tables item place all next c.args.store.now c.loop-delivery.store c.deliver.new.store
+          let next = delivers-at c.args.store.now.schema.catalog.tables plan all place item delivers there in
+          delivers_next S.tells c.args.store.now.schema.catalog.tables item place all next c.args.store.now c.loop-delivery.store c.deliver.new.store
           (S.outside c.args.site.now) (S.outside c.loop-delivery.site) (S.outside c.deliver.new.site) c.loop-delivery.written (before.made all delivers)
           c.in_ok-written.field-0 (made.delivers next.delivery (rw before.schema next.delivers));
       counts =
@@ -88,6 +88,6 @@ pub returns-clause-delivers : goal.returns-clause-delivers
 returns-clause-delivers g c = λ all delivers.
     let S = g.W.Site in
     let place = c.loop-delivery.delivery-index in
-    let end : length all ≤ place = omega (arith, c.loop-delivery-test.false, delivers-length c.args.store.now.schema.tables c.args.plan.now all delivers) in
+    let end : length all ≤ place = omega (arith, c.loop-delivery-test.false, delivers-length c.args.store.now.schema.catalog.tables c.args.plan.now all delivers) in
     subst (λ (plan : List Planned). Delivers S.tells plan (Ok c.loop-delivery.written) c.args.store.now c.loop-delivery.store (S.outside c.args.site.now) (S.outside c.loop-delivery.site))
     (take_all place all end) (c.loop-delivery.invariant.made all delivers)

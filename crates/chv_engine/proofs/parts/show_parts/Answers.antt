@@ -24,13 +24,13 @@ returns-in_err-text-in-Some g c =
 pub returns-in_ok-text-in-Some : goal.returns-in_ok-text-in-Some
 returns-in_ok-text-in-Some g c =
     let store = c.args.store.now in
-    let named = subst (λ (schema : Schema). IsNamed schema.tables c.args.name.now c.in-Some.number) c.schema.ensures (table_of-known c.schema.result.now.tables c.args.name.now c.in-Some.number (sym c.table.ensures ∙ c.in-Some.is)) in
+    let named = subst (λ (schema : Schema). IsNamed schema.catalog c.args.name.now c.in-Some.number) c.schema.ensures (table_of-known c.schema.result.now.catalog c.args.name.now c.in-Some.number (sym c.table.ensures ∙ c.in-Some.is)) in
     parts_answers g.W.Site.tells c.args.client c.args.name.now c.as_slice.result.now c.parts.result.now c.in-Some.number c.reply.result store (g.W.Site.outside c.args.site.now) (g.W.Site.outside c.reply.new.site) c.requires.usable named
     (◌∙◌ {c = told_text c.args.client c.parts.result.now} c.as_slice.ensures c.in_ok-text-in-Some.ensures) c.parts.ensures c.reply.ensures
 
 pub returns-in-None : goal.returns-in-None
 returns-in-None g c =
     let store = c.args.store.now in
-    let none = subst (λ (schema : Schema). table_of schema.tables c.args.name.now ≡ Err UnknownTable) c.schema.ensures (table_of-none c.schema.result.now.tables c.args.name.now (sym c.table.ensures ∙ c.in-None.is)) in
+    let none = subst (λ (schema : Schema). table_of schema.catalog c.args.name.now ≡ Err UnknownTable) c.schema.ensures (table_of-none c.schema.result.now.catalog c.args.name.now (sym c.table.ensures ∙ c.in-None.is)) in
     refused_answers g.W.Site.tells c.args.client (parts_wish c.args.name.now) UnknownTable c.refuse.result store store (g.W.Site.outside c.args.site.now) (g.W.Site.outside c.refuse.new.site) c.requires.usable
     (holds_itself store c.requires.usable.within) (λ entries agree. ap (λ (found : Result (ℕ × TableDef) Refusal). and_then found (λ f. Ok (TellParts f.0 f.1))) none) c.refuse.ensures

@@ -18,5 +18,5 @@ returns-in-Err g c =
     let now = c.tell.new.site in
     fault_told S.tells (now ≡ mid) (requests_in c.args.script.now (from_client 0 c.args.pieces.now)) c.in-Err.fault c.tell.result c.args.store.now c.answer_all.new.store
     (S.outside c.args.site.now) (S.outside mid) (S.outside now) c.in-Err.ensures
-    (subst (λ (schema : Schema). TellsFault S.tells (now ≡ mid) schema.tables c.in-Err.fault c.tell.result (S.outside mid) (S.outside now)) c.schema.ensures c.tell.ensures)
+    (subst (λ (schema : Schema). TellsFault S.tells (now ≡ mid) schema.catalog.tables c.in-Err.fault c.tell.result (S.outside mid) (S.outside now)) c.schema.ensures c.tell.ensures)
     (ap S.outside)

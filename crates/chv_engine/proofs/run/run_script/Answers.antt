@@ -107,7 +107,7 @@ returns-clause-during g c = λ tells history settles.
     let mid = S.outside c.open_store.new.site in
     let new = S.outside c.tell.new.site in
     let Still = c.tell.new.site ≡ c.open_store.new.site in
-    let told = subst (λ (fault : RunFault). TellsFault S.tells Still why.schema.tables fault ends mid new) c.from.ensures c.tell.ensures in
+    let told = subst (λ (fault : RunFault). TellsFault S.tells Still why.schema.catalog.tables fault ends mid new) c.from.ensures c.tell.ensures in
     let requests = requests_of c.args.script.now in
     let files = settles_files requests history old.files settles in
     untold_during S.tells Still why ends old mid new (ap S.outside) tells (c.in-Err.ensures.damaged tells) (c.in-Err.ensures.keeps.said tells) told history settles _
@@ -122,7 +122,7 @@ returns-clause-damaged g c = λ tells damage ended.
     let mid = S.outside c.open_store.new.site in
     let new = S.outside c.tell.new.site in
     let Still = c.tell.new.site ≡ c.open_store.new.site in
-    let told = subst (λ (fault : RunFault). TellsFault S.tells Still why.schema.tables fault ends mid new) c.from.ensures c.tell.ensures in
+    let told = subst (λ (fault : RunFault). TellsFault S.tells Still why.schema.catalog.tables fault ends mid new) c.from.ensures c.tell.ensures in
     says_opening S.tells Still why ends old mid new (ap S.outside) tells (c.in-Err.ensures.damaged tells) (c.in-Err.ensures.keeps.said tells) told damage ended
 
 pub returns-clause-undamaged : goal.returns-clause-undamaged
@@ -134,7 +134,7 @@ returns-clause-undamaged g c = λ tells history damage settles ended.
     let mid = S.outside c.open_store.new.site in
     let new = S.outside c.tell.new.site in
     let Still = c.tell.new.site ≡ c.open_store.new.site in
-    let told = subst (λ (fault : RunFault). TellsFault S.tells Still why.schema.tables fault ends mid new) c.from.ensures c.tell.ensures in
+    let told = subst (λ (fault : RunFault). TellsFault S.tells Still why.schema.catalog.tables fault ends mid new) c.from.ensures c.tell.ensures in
     never_told S.tells Still why ends old mid new (ap S.outside) tells (c.in-Err.ensures.damaged tells) (c.in-Err.ensures.keeps.said tells) told history settles damage ended
 
 pub returns-clause-meets : goal.returns-clause-meets
@@ -146,7 +146,7 @@ returns-clause-meets g c = λ tells line damaged.
     let mid = S.outside c.open_store.new.site in
     let new = S.outside c.tell.new.site in
     let Still = c.tell.new.site ≡ c.open_store.new.site in
-    let told = subst (λ (fault : RunFault). TellsFault S.tells Still why.schema.tables fault ends mid new) c.from.ensures c.tell.ensures in
+    let told = subst (λ (fault : RunFault). TellsFault S.tells Still why.schema.catalog.tables fault ends mid new) c.from.ensures c.tell.ensures in
     tells_opening S.tells Still why ends old mid new (ap S.outside) tells (c.in-Err.ensures.damaged tells) (c.in-Err.ensures.keeps.said tells) told (requests_of c.args.script.now) line damaged
 
 pub returns-clause-counts : goal.returns-clause-counts
@@ -158,5 +158,5 @@ returns-clause-counts g c =
     let mid = S.outside c.open_store.new.site in
     let new = S.outside c.tell.new.site in
     let Still = c.tell.new.site ≡ c.open_store.new.site in
-    let told = subst (λ (fault : RunFault). TellsFault S.tells Still why.schema.tables fault ends mid new) c.from.ensures c.tell.ensures in
-    counts_told S.tells Still why.schema.tables ends old mid new (ap S.outside) why.fault c.in-Err.ensures.keeps.counts told
+    let told = subst (λ (fault : RunFault). TellsFault S.tells Still why.schema.catalog.tables fault ends mid new) c.from.ensures c.tell.ensures in
+    counts_told S.tells Still why.schema.catalog.tables ends old mid new (ap S.outside) why.fault c.in-Err.ensures.keeps.counts told
