@@ -1,5 +1,5 @@
 -- What a statement asks for that is built, by its form, and one that is not.
-use Rattle.std.proofs.Common.{◌≡◌, ◌≢◌, ℕ, List, Bool, true, false, not, Some, Err, refl, sym, ap, ◌∙◌}
+use Rattle.std.proofs.Common.{◌≡◌, ◌≢◌, ℕ, Bool, true, false, not, Some, Err, refl, sym, ap, ◌∙◌}
 use Rattle.std.proofs.lemmas.Bool.{false≢true}
 use Rattle.chv_ast.specs.declared.refusal.Refusal.TheVariants.{NotBuilt}
 use Rattle.chv_ast.specs.declared.statement.CreateTable.{CreateTable}
@@ -9,7 +9,6 @@ use Rattle.chv_ast.specs.declared.statement.ShowParts.{ShowParts}
 use Rattle.chv_ast.specs.declared.statement.Statement.{Statement}
 use Rattle.chv_ast.specs.declared.statement.Statement.TheVariants as statement
 use Rattle.chv_catalog.specs.Schemas.{Catalog}
-use Rattle.chv_catalog.specs.declared.table_def.TableDef.{TableDef}
 use Rattle.chv_query.specs.Accepted.{is_built_table}
 use Rattle.chv_types.specs.Steps.{refuse_if}
 use Rattle.chv_history.specs.Built.{is_built}
