@@ -20,7 +20,7 @@ use chv_text::{line_rows, rows_text};
 use chv_types::Bytes;
 use std::alloc::{AllocError, Global};
 
-/// Answers a SELECT without grouping; true where it was refused. A SELECT that a check refuses reads no part.
+/// Answers a SELECT; true where it was refused. A SELECT that a check refuses reads no part.
 pub fn select<W: Site>(
     alloc: Global,
     site: &mut W,
