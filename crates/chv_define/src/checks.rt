@@ -37,7 +37,10 @@ pub fn check_names(schema: &Schema, name: &Name, columns: &ColumnDefs) -> Result
     ensures few { IfOk result (λ _. length columns.now ≤ 64) }
 {
     refuse_if(schema.taken(name.as_slice()), Refusal::NameTaken)?;
-    refuse_if(schema.definitions() >= MAX_DEFINITIONS, Refusal::LimitPassed)?;
+    refuse_if(
+        schema.definitions() >= MAX_DEFINITIONS,
+        Refusal::LimitPassed,
+    )?;
     refuse_if(columns.len() > MAX_COLUMNS, Refusal::LimitPassed)?;
     refuse_if(has_repeat(columns.as_slice()), Refusal::NameTaken)
 }
