@@ -7,10 +7,12 @@ use Rattle.std.specs.Vec.{vec_len, vec_capacity}
 use Rattle.chv_types.specs.declared.kind.Kind.{Kind}
 pub use Rattle.chv_types.specs.Names.{place_of}
 use Rattle.chv_catalog.specs.Names.{Named}
+use Rattle.chv_catalog.specs.declared.definition.Definition.{Definition}
+use Rattle.chv_catalog.specs.declared.definition.Definition.TheVariants.{Table, View}
 use Rattle.chv_catalog.specs.declared.table_def.TableDef.{TableDef}
 use Rattle.chv_catalog.specs.declared.view_def.ViewDef.{ViewDef}
 
--- what is defined: the tables in order of creation, and the views, of which there are none yet
+-- what is defined: the tables and the views, each in order of creation
 pub record Catalog : Type 0 where
   pub tables : List TableDef
   pub views : List ViewDef
@@ -19,17 +21,27 @@ pub record Catalog : Type 0 where
 abbrev pub no_definitions : Catalog
 no_definitions = record { tables = []; views = [] }
 
--- a table is defined behind the others
-abbrev pub with_table : TableDef → Catalog → Catalog
-with_table def catalog = record catalog { tables = catalog.tables ++ def ∷ [] }
+-- the name of what is defined
+abbrev pub definition_name : Definition → List ℕ
+definition_name (Table def) = def.name
+definition_name (View def) = def.name
+
+-- a table is defined behind the other tables, a view behind the other views
+abbrev pub with_definition : Definition → Catalog → Catalog
+with_definition (Table def) catalog = record catalog { tables = catalog.tables ++ def ∷ [] }
+with_definition (View def) catalog = record catalog { views = catalog.views ++ def ∷ [] }
 
 -- the names of tables, in order
 abbrev pub table_names : List TableDef → List (List ℕ)
 table_names defs = map (λ def. def.name) defs
 
+-- the names of views, in order
+abbrev pub view_names : List ViewDef → List (List ℕ)
+view_names defs = map (λ def. def.name) defs
+
 -- the names that are taken: those of the tables, then those of the views
 abbrev pub names_of : Catalog → List (List ℕ)
-names_of catalog = table_names catalog.tables ++ map (λ view. view.name) catalog.views
+names_of catalog = table_names catalog.tables ++ view_names catalog.views
 
 -- how many tables and views are defined
 abbrev pub definitions_in : Catalog → ℕ
@@ -57,7 +69,11 @@ pub record Seen : Type 0 where
   pub catalog : Catalog
   pub room : Option (List ℕ)
 
--- where there is a name for it, there is room in memory for a table more, and for its name beside those of the others
-abbrev pub HasRoom : Vec TableDef Global → Named → Option (Vec ℕ Global) → Type 0
-HasRoom tables named None = Unit {0}
-HasRoom tables named (Some name) = (vec_len tables < vec_capacity tables) × (1 ≤ named.room)
+-- there is room in memory for one more
+abbrev pub HasSpare : {A : Type 0} → Vec A Global → Named → Type 0
+HasSpare defs named = (vec_len defs < vec_capacity defs) × (1 ≤ named.room)
+
+-- where there is a name for it, there is room in memory for a table more and for a view more, and for their names
+abbrev pub HasRoom : Vec TableDef Global → Named → Vec ViewDef Global → Named → Option (Vec ℕ Global) → Type 0
+HasRoom tables by_name views named None = Unit {0}
+HasRoom tables by_name views named (Some name) = HasSpare tables by_name × HasSpare views named

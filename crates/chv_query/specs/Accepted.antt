@@ -7,14 +7,14 @@ use Rattle.chv_ast.specs.declared.statement.KindWord.{KindWord}
 use Rattle.chv_ast.specs.declared.statement.KindWord.TheVariants as kind
 use Rattle.chv_ast.specs.declared.statement.Statement.{Statement}
 use Rattle.chv_ast.specs.declared.statement.Statement.TheVariants as statement
-use Rattle.chv_catalog.specs.Schemas.{Catalog, no_definitions}
+use Rattle.chv_catalog.specs.Schemas.{Catalog, no_definitions, with_definition}
+use Rattle.chv_catalog.specs.declared.definition.Definition.{Definition}
+use Rattle.chv_catalog.specs.declared.definition.Definition.TheVariants.{Table, View}
 use Rattle.chv_catalog.specs.declared.table_def.TableDef.{TableDef}
+use Rattle.chv_catalog.specs.declared.view_def.ViewDef.{ViewDef}
 use Rattle.chv_query.specs.Definitions.{defined, is_aggregating}
+use Rattle.chv_query.specs.Views.{defined_view}
 use Rattle.chv_print.specs.StatementTexts.{statement_text}
-
--- what a CREATE statement defines
-pub data Definition : Type 0 where
-  Table : TableDef → Definition
 
 -- an accepted CREATE statement, and what it defines
 pub record Accepted : Type 0 where
@@ -24,18 +24,24 @@ pub record Accepted : Type 0 where
 -- the table of a definition, where it is one
 abbrev pub tables_in : Definition → List TableDef
 tables_in (Table def) = def ∷ []
+tables_in (View def) = []
+
+-- the view of a definition, where it is one
+abbrev pub views_in : Definition → List ViewDef
+views_in (Table def) = []
+views_in (View def) = def ∷ []
 
 -- the tables of a schema, in the order of creation
 abbrev pub tables_of : List Accepted → List TableDef
 tables_of schema = flat_map (λ (accepted : Accepted). tables_in accepted.definition) schema
 
+-- the views of a schema, in the order of creation
+abbrev pub views_of : List Accepted → List ViewDef
+views_of schema = flat_map (λ (accepted : Accepted). views_in accepted.definition) schema
+
 -- what a schema defines
 abbrev pub catalog_of : List Accepted → Catalog
-catalog_of schema = record { tables = tables_of schema; views = [] }
-
--- a catalog with a definition more, behind the others
-abbrev pub with_definition : Catalog → Definition → Catalog
-with_definition catalog definition = record catalog { tables = catalog.tables ++ tables_in definition }
+catalog_of schema = record { tables = tables_of schema; views = views_of schema }
 
 -- a table whose rows are not merged
 unfoldable pub is_built_table : CreateTable → Bool
@@ -44,12 +50,14 @@ is_built_table made = not (is_aggregating made.engine)
 -- a CREATE statement that is built
 abbrev pub is_built_create : Statement → Bool
 is_built_create (statement.CreateTable made) = is_built_table made
+is_built_create (statement.CreateView made) = true
 is_built_create other = false
 
 -- no check refuses a statement beside what is defined, and this is what it defines
 abbrev pub Defines : Catalog → Statement → Definition → Type 0
 Defines catalog (statement.CreateTable made) (Table def) = defined catalog made ≡ Ok def
-Defines catalog other (Table def) = ⊥
+Defines catalog (statement.CreateView made) (View def) = defined_view catalog made ≡ Ok def
+Defines catalog other definition = ⊥
 
 -- a statement is accepted beside what is defined
 pub record IsAccepted (catalog : Catalog) (accepted : Accepted) : Type 0 where
@@ -60,7 +68,7 @@ pub record IsAccepted (catalog : Catalog) (accepted : Accepted) : Type 0 where
 abbrev pub AreAccepted : Catalog → List Accepted → Type 0
 AreAccepted catalog [] = Unit {0}
 AreAccepted catalog (accepted ∷ schema) =
-    (is_built_create accepted.statement ≡ true) × IsAccepted catalog accepted × AreAccepted (with_definition catalog accepted.definition) schema
+    (is_built_create accepted.statement ≡ true) × IsAccepted catalog accepted × AreAccepted (with_definition accepted.definition catalog) schema
 
 -- a schema: each of its statements is built, and accepted over those before it
 abbrev pub IsSchema : List Accepted → Type 0

@@ -3,6 +3,7 @@ pub mod Arrivals
 pub mod Bound
 pub mod Calls
 pub mod Definitions
+pub mod Derived
 pub mod Keys
 pub mod Literals
 pub mod Outputs
@@ -12,3 +13,4 @@ pub mod Results
 pub mod Shapes
 pub mod Shown
 pub mod Tables
+pub mod Views

@@ -1,28 +1,30 @@
 -- What an INSERT brings: docs/SQL.md, "INSERT".
-use Rattle.std.specs.Prelude.{ℕ, Bool, false, ◌+◌, ◌-◌, ◌≤◌, not, nat_eq, nat_lt, List, [], ◌∷◌, length, map, if◌then◌else◌, Option, None, Some, Result, Ok, Err, slice_get}
-use Rattle.std.specs.List.{filter_map, list_any}
+use Rattle.std.specs.Prelude.{ℕ, Bool, false, ◌+◌, ◌-◌, ◌≤◌, not, nat_eq, nat_lt, List, [], ◌∷◌, ◌++◌, length, map, if◌then◌else◌, Option, None, Some, Result, Ok, Err, slice_get}
+use Rattle.std.specs.List.{filter, filter_map, list_any}
 use Rattle.chv_ast.specs.declared.expr.Literal.{Literal}
 use Rattle.chv_ast.specs.declared.refusal.Refusal.{Refusal}
-use Rattle.chv_ast.specs.declared.refusal.Refusal.TheVariants.{UnknownColumn, NameTaken, TypeMismatch, WrongWidth, LimitPassed}
+use Rattle.chv_ast.specs.declared.refusal.Refusal.TheVariants.{UnknownColumn, NameTaken, TypeMismatch, WrongWidth, DivisionByZero, LimitPassed}
 use Rattle.chv_ast.specs.declared.statement.Insert.{Insert}
 use Rattle.chv_ast.specs.declared.statement.Settings.{Settings}
 use Rattle.chv_catalog.specs.Checks.{has_repeat, is_unknown, is_state, number_within, places_of}
-use Rattle.chv_query.specs.Tables.{table_of}
+use Rattle.chv_catalog.specs.Paths.{links_of, paths_from}
 use Rattle.chv_catalog.specs.Schemas.{Catalog, columns_of, kinds_of}
 use Rattle.chv_catalog.specs.declared.table_def.TableDef.{TableDef}
 use Rattle.chv_block.specs.Blocks.{Sized, blocks_of}
 use Rattle.chv_block.specs.Spellings.{AllAreOf, row_spelling, block_spelling}
 use Rattle.chv_block.specs.declared.squasher.Sizes.{Sizes}
 use Rattle.chv_part.specs.Books.{MAX_ROWS}
-use Rattle.chv_part.specs.Forms.{form_of}
+use Rattle.chv_group.specs.Groups.{is_empty}
 use Rattle.chv_sip.specs.BlockIds.{SourceKey, Content, Token}
 use Rattle.chv_types.specs.Steps.{refuse_if, and_then}
 use Rattle.chv_types.specs.Values.{default_of}
 use Rattle.chv_types.specs.declared.kind.Kind.{Kind}
 use Rattle.chv_types.specs.declared.kind.Kind.TheVariants as kind
 use Rattle.chv_types.specs.declared.value.Value.{Value}
-use Rattle.chv_query.specs.Arrivals.{Arrival, arrival_of}
+use Rattle.chv_query.specs.Arrivals.{Arrival, arrival_in, end_at}
+use Rattle.chv_query.specs.Derived.{derived, divides_along}
 use Rattle.chv_query.specs.Literals.{literal_value}
+use Rattle.chv_query.specs.Tables.{table_of}
 
 -- one block to one table
 pub record Delivery : Type 0 where
@@ -53,11 +55,30 @@ source_of kinds None number block = Content (block_spelling kinds block)
 source_of kinds (Some []) number block = Content (block_spelling kinds block)
 source_of kinds (Some (byte ∷ token)) number block = Token (byte ∷ token) number
 
--- blocks as deliveries to a table, numbered from this number on
-abbrev pub deliveries_of : ℕ → TableDef → Option (List ℕ) → ℕ → List (List (List Value)) → List Delivery
-deliveries_of table def token number [] = []
-deliveries_of table def token number (block ∷ blocks) =
-    record { table = table; entry = arrival_of (form_of def) (source_of (kinds_of def) token number block) block } ∷ deliveries_of table def token (number + 1) blocks
+-- a block as a delivery along a path from the table into which it is inserted
+abbrev pub delivery_along : Catalog → ℕ → SourceKey → List (List Value) → List ℕ → Delivery
+delivery_along catalog table source block path = record {
+  table = end_at catalog table path;
+  entry = arrival_in catalog (record { origin = table; source = source; path = path }) block;
+}
+
+-- the paths from a table along which rows are derived from a block, in preorder, behind the empty one
+abbrev pub paths_for : Catalog → ℕ → List (List Value) → List (List ℕ)
+paths_for catalog table block = [] ∷ filter (λ path. not (is_empty (derived catalog block path))) (paths_from (links_of catalog.views) table)
+
+-- a block as deliveries: to the table into which it is inserted, and then along each path from there
+abbrev pub block_deliveries : Catalog → ℕ → SourceKey → List (List Value) → List Delivery
+block_deliveries catalog table source block = map (delivery_along catalog table source block) (paths_for catalog table block)
+
+-- blocks as deliveries, numbered from this number on
+abbrev pub deliveries_of : Catalog → ℕ → List Kind → Option (List ℕ) → ℕ → List (List (List Value)) → List Delivery
+deliveries_of catalog table kinds token number [] = []
+deliveries_of catalog table kinds token number (block ∷ blocks) =
+    block_deliveries catalog table (source_of kinds token number block) block ++ deliveries_of catalog table kinds token (number + 1) blocks
+
+-- on a path from the table into which a block is inserted a view divides by zero
+abbrev pub divides_below : Catalog → ℕ → List (List Value) → Bool
+divides_below catalog table block = list_any (divides_along catalog block) (paths_from (links_of catalog.views) table)
 
 -- rows, each with the number of its bytes
 abbrev pub sized_rows : List Kind → List (List Value) → List Sized
@@ -113,9 +134,14 @@ rows_for kinds places [] = Ok []
 rows_for kinds places (literals ∷ rows) =
     and_then (row_for kinds places literals) (λ row. and_then (rows_for kinds places rows) (λ rest. Ok (row ∷ rest)))
 
--- what an INSERT brings to the table of a number and this definition, or the first check that refuses it
-abbrev pub planned_for : ℕ → TableDef → Insert → Result (List Delivery) Refusal
-planned_for table def insert =
+-- blocks as deliveries, where no view divides by zero
+abbrev pub deliveries_for : Catalog → ℕ → TableDef → Option (List ℕ) → List (List (List Value)) → Result (List Delivery) Refusal
+deliveries_for catalog table def token blocks =
+    refuse_if (list_any (divides_below catalog table) blocks) DivisionByZero (Ok (deliveries_of catalog table (kinds_of def) token 0 blocks))
+
+-- what an INSERT brings to the table of a number and this definition, and to those below views, or the first check that refuses it
+abbrev pub planned_for : Catalog → ℕ → TableDef → Insert → Result (List Delivery) Refusal
+planned_for catalog table def insert =
     let names = filled_names (columns_of def) insert.columns in
     let places = places_of (columns_of def) names in
     refuse_if (list_any (is_unknown (columns_of def)) names) UnknownColumn
@@ -125,8 +151,8 @@ planned_for table def insert =
     refuse_if (is_long insert.settings.token) LimitPassed
     (refuse_if (nat_lt MAX_ROWS (length insert.rows)) LimitPassed
     (and_then (rows_for (kinds_of def) places insert.rows) (λ written.
-    Ok (deliveries_of table def insert.settings.token 0 (blocks_of sizes (sized_rows (kinds_of def) written))))))))))
+    deliveries_for catalog table def insert.settings.token (blocks_of sizes (sized_rows (kinds_of def) written)))))))))
 
 -- what an INSERT brings, in order, or the first check that refuses it
 unfoldable pub planned : Catalog → Insert → Result (List Delivery) Refusal
-planned catalog insert = and_then (table_of catalog insert.table) (λ found. planned_for found.0 found.1 insert)
+planned catalog insert = and_then (table_of catalog insert.table) (λ found. planned_for catalog found.0 found.1 insert)

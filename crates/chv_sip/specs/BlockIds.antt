@@ -1,6 +1,7 @@
 -- The ids of blocks, which are hashes of what names them: docs/FORMATS.md, "Ids".
 use Rattle.std.specs.Prelude.{ℕ, Bool, ◌==◌, ◌&&◌, ◌-◌, List, [], ◌∷◌, ◌++◌, length, drop}
-use Rattle.std.specs.Int.{w32, to_le_bytes}
+use Rattle.std.specs.Int.{w32, w64, to_le_bytes}
+use Rattle.std.specs.List.{flat_map}
 use Rattle.byteorder.specs.Endian.{little_number}
 use Rattle.chv_sip.specs.SipHash.{sip_hash}
 use Rattle.chv_sip.specs.declared.block_id.BlockId.{BlockId}
@@ -28,6 +29,22 @@ content_key block = 1 ∷ block
 -- what names a block by a token: 2, the token behind its length, and the number of the block in its insert, from 0
 abbrev pub token_key : List ℕ → ℕ → List ℕ
 token_key token number = (2 ∷ []) ++ to_le_bytes w32 (length token) ++ token ++ to_le_bytes w32 number
+
+-- a name behind its length
+abbrev pub measured : List ℕ → List ℕ
+measured name = to_le_bytes w32 (length name) ++ name
+
+-- the 16 bytes of an id
+abbrev pub id_bytes : BlockId → List ℕ
+id_bytes id = to_le_bytes w64 id.first ++ to_le_bytes w64 id.second
+
+-- what names a block behind views: 3, the id of the block where it was inserted, and the names of the views, behind their number
+abbrev pub path_key : BlockId → List (List ℕ) → List ℕ
+path_key source names = (3 ∷ []) ++ id_bytes source ++ to_le_bytes w32 (length names) ++ flat_map measured names
+
+-- the id of a block behind views
+abbrev pub path_id : BlockId → List (List ℕ) → BlockId
+path_id source names = id_of (path_key source names)
 
 -- what names a block of an insert: its bytes, or a token and the block's number
 pub data SourceKey : Type 0 where
