@@ -1,9 +1,11 @@
 -- The places of names among tables.
-use Rattle.std.proofs.Common.{◌≡◌, ◌∙◌, ◌<◌, ℕ, List, [], ◌∷◌, ◌++◌, length, Some, None, if◌then◌else◌, refl, ap, arith, append-nil}
+use Rattle.std.proofs.Common.{◌≡◌, ◌∙◌, ◌<◌, ◌||◌, ℕ, Bool, false, List, [], ◌∷◌, ◌++◌, length, Option, Some, None, is_some, if◌then◌else◌, refl, sym, ap, ap₂, arith}
+use Rattle.std.proofs.lemmas.Bool.{or_parts}
+use Rattle.std.proofs.lemmas.List.Folds.{list_any-append}
 use Rattle.std.specs.Str.{bytes_eq}
 use Rattle.std.specs.Option.{option_or}
 use Rattle.std.proofs.lemmas.Grind.{common_steps}
-use Rattle.chv_catalog.proofs.Positions.{position-push}
+use Rattle.chv_catalog.proofs.Positions.{is_some-position, position-push}
 use Rattle.chv_catalog.specs.Schemas.{Catalog, names_of, place_of, table_names}
 use Rattle.chv_catalog.specs.declared.table_def.TableDef.{TableDef}
 
@@ -16,9 +18,23 @@ pub length-table_names : (defs : List TableDef) → length (table_names defs) �
 length-table_names [] = refl
 length-table_names (def ∷ defs) = rw (length-table_names defs) refl
 
--- where there is no view, the names that are taken are those of the tables
-pub names_of-no_views : (defs : List TableDef) → names_of (record { tables = defs; views = [] }) ≡ table_names defs
-names_of-no_views defs = append-nil (table_names defs)
+-- a name is one of two lists where it is one of the first or one of the second
+pub is_some_names : (name : List ℕ) (xs ys : List (List ℕ)) → is_some (place_of name (xs ++ ys)) ≡ (is_some (place_of name xs) || is_some (place_of name ys))
+is_some_names name xs ys =
+    is_some-position is (xs ++ ys) ∙ list_any-append is xs ys ∙ ap₂ (λ (a b : Bool). a || b) (sym (is_some-position is xs)) (sym (is_some-position is ys))
+  where
+    is : List ℕ → Bool
+    is other = bytes_eq other name
+
+none : {A : Type 0} (o : Option A) → is_some o ≡ false → o ≡ None
+none {A} None is = refl
+none {A} (Some a) is = absurd cc
+
+-- what is no name of two lists is none of the first and none of the second
+pub new_among : (name : List ℕ) (xs ys : List (List ℕ)) → place_of name (xs ++ ys) ≡ None → (place_of name xs ≡ None) × (place_of name ys ≡ None)
+new_among name xs ys new =
+    let parts = or_parts (is_some (place_of name xs)) (is_some (place_of name ys)) (sym (is_some_names name xs ys) ∙ ap is_some new) in
+    (none (place_of name xs) parts.0, none (place_of name ys) parts.1)
 
 -- a table more is a name more
 pub table_names-append : (defs : List TableDef) (def : TableDef) → table_names (defs ++ def ∷ []) ≡ table_names defs ++ def.name ∷ []

@@ -70,6 +70,7 @@ impl Schema {
     }
 
     /// Puts a table behind the other tables, or a view behind the other views. It takes no memory.
+    #[tactic(auto, using(crate::proofs::SchemaLemmas::new_among))]
     pub fn accept(&mut self, definition: Definition)
         requires room { self.old.room ≡ Some (definition_name definition) }
         requires free { place_of (definition_name definition) (names_of self.old.catalog) ≡ None }
@@ -106,6 +107,7 @@ impl Schema {
     }
 
     /// Whether a table or a view has this name.
+    #[tactic(auto, using(crate::proofs::SchemaLemmas::is_some_names))]
     pub fn taken(&self, name: &[u8]) -> bool
         ensures { result ≡ is_some (place_of name.now (names_of self.now.catalog)) }
     {
