@@ -4,3 +4,4 @@ pub mod NameLemmas
 pub mod Positions
 pub mod SchemaLemmas
 pub mod StepLemmas
+pub mod WalkLemmas
