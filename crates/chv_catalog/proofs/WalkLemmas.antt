@@ -1,9 +1,8 @@
 -- How paths are found, view by view.
-use Rattle.std.proofs.Common.{◌≡◌, ◌≢◌, ◌∙◌, ◌||◌, ◌<◌, ◌≤◌, ◌+◌, ◌-◌, ℕ, suc, zero, Bool, true, false, nat_eq, nat_lt, if◌then◌else◌, List, [], ◌∷◌, ◌++◌, length, map, take, drop, set, get_or, slice_get, Option, Some, None, is_none, is_some, not, take_all, refl, sym, ap, ap₂, arith, add-one, drop-cons, append_assoc, append-nil}
-use Rattle.std.proofs.Common.{option_and_then, eq-eqb, ne_eqb, true-eqb, ltb-true, lt-ltb, ltb-false, le-ltb, length-append}
+use Rattle.std.proofs.Common.{◌≡◌, ◌≢◌, ◌∙◌, ◌||◌, ◌<◌, ◌≤◌, ◌+◌, ◌-◌, ℕ, suc, Bool, true, false, nat_eq, nat_lt, if◌then◌else◌, List, [], ◌∷◌, ◌++◌, length, map, take, drop, set, get_or, slice_get, Option, Some, None, is_none, is_some, not, take_all, refl, sym, ap, ap₂, arith, add-one, drop-cons, append_assoc}
+use Rattle.std.proofs.Common.{option_and_then, eq-eqb, ne_eqb, ltb-true, lt-ltb, ltb-false, le-ltb, length-append}
 use Prim.Native.Nat.compare
-use Rattle.std.specs.List.{flat_map, list_any, range_with_len}
-use Rattle.std.specs.Option.{option_map, unwrap_or}
+use Rattle.std.specs.List.{list_any, range_with_len}
 use Rattle.std.proofs.lemmas.List.{drop_all, map-append, take_more, take_more_set}
 use Rattle.std.proofs.lemmas.List.Folds.{list_any-append}
 use Rattle.std.proofs.lemmas.Option.{same_Some, slice_get-get_or, slice_get_within}

@@ -1,7 +1,7 @@
 -- How paths are found: view by view, each with what comes behind it.
-use Rattle.std.specs.Prelude.{ℕ, ◌≤◌, ◌<◌, ◌-◌, Bool, ◌||◌, nat_eq, nat_lt, suc, List, [], ◌∷◌, length, map, if◌then◌else◌, Option, None, Some}
+use Rattle.std.specs.Prelude.{ℕ, ◌≤◌, ◌<◌, ◌-◌, Bool, ◌||◌, nat_eq, nat_lt, List, [], ◌∷◌, length, map, if◌then◌else◌, Option, None, Some}
 use Rattle.std.specs.List.{All, flat_map, list_any}
-use Rattle.chv_catalog.specs.Paths.{IsPath, MAX_PATH, end_of, paths_within, target_of}
+use Rattle.chv_catalog.specs.Paths.{IsPath, end_of, paths_within, target_of}
 use Rattle.chv_catalog.specs.declared.link.Link.{Link}
 
 -- the paths that begin with one of these views and have so many at most behind it, in preorder

@@ -1,9 +1,9 @@
 -- A view that reads the table may lead on.
-use Rattle.std.proofs.Common.{◌≡◌, ◌||◌, ◌∙◌, true, false, Bool, ℕ, drop, ◌+◌, sym, ap, arith, length}
+use Rattle.std.proofs.Common.{◌∙◌, true, false, ℕ, sym, ap, arith}
 use Rattle.std.specs.List.{list_any}
-use Rattle.chv_catalog.specs.Paths.{readers_from, target_of}
+use Rattle.chv_catalog.specs.Paths.{target_of}
 use Rattle.chv_catalog.specs.Walks.{leads}
-use Rattle.chv_catalog.proofs.WalkLemmas.{leads-first, leads-some, readers-end, readers-none}
+use Rattle.chv_catalog.proofs.WalkLemmas.{leads-first, leads-some, readers-none}
 use Rattle.chv_catalog.proofs.paths.+leads.Goals as goal
 use Rattle.chv_catalog.proofs.paths.+leads.Goals.{else-links-view-via-then-links-view+else-leads, else-links-view-via-else-links-view}
 
@@ -17,7 +17,8 @@ returns-then-leads t c =
 pub loop-view-preserved : goal.loop-view-preserved
 loop-view-preserved t c =
     elim c.else-links-view.branch [
-      else-links-view-via-then-links-view+else-leads w ↦
-    sym (leads-some _ _ c.args.links.now c.args.from c.args.to _ false c.loop-view-test.true w.if-links-view.true (sym w.if-leads.false ∙ w.leads.ensures)) ∙ c.loop-view.invariant
-    | else-links-view-via-else-links-view w ↦
-    ap (list_any (λ (view : ℕ). leads _ c.args.links.now (target_of c.args.links.now view) c.args.to)) (sym (readers-none _ c.args.links.now c.args.from _ c.loop-view-test.true w.if-links-view.false)) ∙ c.loop-view.invariant ]
+      | else-links-view-via-then-links-view+else-leads w ↦
+          sym (leads-some _ _ c.args.links.now c.args.from c.args.to _ false c.loop-view-test.true w.if-links-view.true (sym w.if-leads.false ∙ w.leads.ensures)) ∙ c.loop-view.invariant
+      | else-links-view-via-else-links-view w ↦
+          ap (list_any (λ (view : ℕ). leads _ c.args.links.now (target_of c.args.links.now view) c.args.to)) (sym (readers-none _ c.args.links.now c.args.from _ c.loop-view-test.true w.if-links-view.false)) ∙ c.loop-view.invariant
+    ]

@@ -1,5 +1,5 @@
 -- The next table passes the limits, or those behind it do.
-use Rattle.std.proofs.Common.{◌≡◌, ◌∙◌, false, sym}
+use Rattle.std.proofs.Common.{◌∙◌, false, sym}
 use Rattle.chv_catalog.proofs.WalkLemmas.{is_none-is, limits-first, limits-next}
 use Rattle.chv_catalog.proofs.paths.pass_limits.Goals as goal
 

@@ -1,5 +1,5 @@
 -- The next view's link is laid out behind those so far.
-use Rattle.std.proofs.Common.{◌≡◌, ◌∙◌, arith, length-set}
+use Rattle.std.proofs.Common.{◌∙◌, arith, length-set}
 use Rattle.chv_catalog.specs.Paths.{links_of}
 use Rattle.chv_catalog.proofs.WalkLemmas.{links-all, links-more}
 use Rattle.chv_catalog.proofs.schema.Schema.lay_links.Goals as goal

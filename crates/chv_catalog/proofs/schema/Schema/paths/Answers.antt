@@ -1,5 +1,5 @@
 -- The links that are laid out are those of the views.
-use Rattle.std.proofs.Common.{◌≡◌, ◌∙◌, ◌++◌, List, ℕ, ap₂, map, map-id}
+use Rattle.std.proofs.Common.{◌∙◌, ◌++◌, List, ℕ, ap₂, map, map-id}
 use Rattle.chv_catalog.specs.Paths.{MAX_PATH, links_of, paths_from, paths_within}
 use Rattle.chv_catalog.specs.declared.link.Link.{Link}
 use Rattle.chv_catalog.proofs.schema.Schema.paths.Goals as goal

@@ -1,5 +1,5 @@
 -- The links that are laid out are those of the views.
-use Rattle.std.proofs.Common.{◌≡◌, ◌∙◌, List, ap}
+use Rattle.std.proofs.Common.{◌∙◌, List, ap}
 use Rattle.chv_catalog.specs.Paths.{MAX_PATH, paths_from, reaches}
 use Rattle.chv_catalog.specs.Walks.{leads}
 use Rattle.chv_catalog.specs.declared.link.Link.{Link}
