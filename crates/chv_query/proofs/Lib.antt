@@ -20,3 +20,4 @@ pub mod TableLemmas
 pub mod TakesLemmas
 pub mod WholeRowLemmas
 pub mod ViewLemmas
+pub mod GrowthLemmas
