@@ -6,7 +6,7 @@ use Rattle.std.specs.Str.{bytes_eq}
 use Rattle.std.specs.Option.{option_or}
 use Rattle.std.proofs.lemmas.Grind.{common_steps}
 use Rattle.chv_catalog.proofs.Positions.{is_some-position, position-push}
-use Rattle.chv_catalog.specs.Schemas.{Catalog, names_of, place_of, table_names}
+use Rattle.chv_catalog.specs.Schemas.{Catalog, place_of, table_names}
 use Rattle.chv_catalog.specs.declared.table_def.TableDef.{TableDef}
 
 -- what has the same definitions has the same tables

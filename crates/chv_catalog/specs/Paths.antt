@@ -1,5 +1,5 @@
 -- Paths along views: docs/SQL.md, "Paths".
-use Rattle.std.specs.Prelude.{ℕ, ◌≡◌, ◌+◌, Bool, ◌||◌, nat_eq, nat_lt, zero, suc, List, [], ◌∷◌, length, map, if◌then◌else◌, Option, None, Some, slice_get}
+use Rattle.std.specs.Prelude.{ℕ, ◌≡◌, ◌+◌, Bool, ◌||◌, nat_eq, nat_lt, zero, suc, List, [], ◌∷◌, length, map, if◌then◌else◌, Some, slice_get}
 use Rattle.std.specs.List.{flat_map, list_any, range_with_len}
 use Rattle.std.specs.Option.{option_map, unwrap_or}
 use Rattle.chv_catalog.specs.declared.link.Link.{Link}

@@ -45,17 +45,18 @@ brought_by table (Replied text plans refuses ∷ events) = brought_by table even
 abbrev pub known : ℕ → History → List Event → List Arrival
 known table history events = history.arrivals table ++ brought_by table events
 
--- what goes by different names in one table has different ids
+-- what goes by different things in one table has different ids
 abbrev pub AreApart : History → List Event → Type 0
 AreApart history events =
     (table : ℕ) (a b : Arrival) → Contains (known table history events) a → Contains (known table history events) b
-    → a.id ≡ b.id → a.source ≡ b.source
+    → a.id ≡ b.id → a.contribution ≡ b.contribution
 
--- what goes by one token and one number in one table is one block
+-- what was inserted into one table under one token and one number is one block, wherever it arrived
 abbrev pub SameTokenSameBlock : History → List Event → Type 0
 SameTokenSameBlock history events =
-    (table : ℕ) (a b : Arrival) (token : List ℕ) (number : ℕ) → Contains (known table history events) a → Contains (known table history events) b
-    → a.source ≡ Token token number → b.source ≡ Token token number → a.block ≡ b.block
+    (one other : ℕ) (a b : Arrival) (token : List ℕ) (number : ℕ) → Contains (known one history events) a → Contains (known other history events) b
+    → a.contribution.origin ≡ b.contribution.origin → a.contribution.source ≡ Token token number → b.contribution.source ≡ Token token number
+    → a.block ≡ b.block
 
 -- at a moment, what arrived under the id of an acknowledged delivery, in its table, has the delivery's rows
 abbrev pub IdsNameOne : Moment → Type 0

@@ -1,9 +1,11 @@
 -- What a store has, and what its files hold where they stand for it.
 use Rattle.std.specs.Prelude.{ℕ, ◌≡◌, ◌+◌, ◌-◌, ◌==◌, List, [], ◌∷◌, ◌++◌, length, map, if◌then◌else◌, Option, None, Some, slice_get}
 use Rattle.std.specs.List.{All}
+use Rattle.chv_catalog.specs.declared.definition.Definition.{Definition}
+use Rattle.chv_catalog.specs.declared.definition.Definition.TheVariants.{Table, View}
 use Rattle.chv_catalog.specs.declared.table_def.TableDef.{TableDef}
 use Rattle.chv_commit.specs.Replays.{Span}
-use Rattle.chv_query.specs.Accepted.{Accepted, tables_of, IsSchema, catalog_payload}
+use Rattle.chv_query.specs.Accepted.{Accepted, catalog_of, tables_of, IsSchema, catalog_payload}
 use Rattle.chv_part.specs.Books.{TableForm, Book, IsLawfulBook}
 use Rattle.chv_part.specs.Forms.{form_of}
 use Rattle.chv_part.specs.Standing.{FilesStand}
@@ -48,21 +50,26 @@ window_at tables table = window_in (slice_get tables (table - 1))
 abbrev pub put_at : {A : Type 0} → ℕ → A → (ℕ → A) → ℕ → A
 put_at number new old = λ n. if n == number then new else old n
 
+-- of what is there by number, none for a new table; a view changes nothing
+abbrev pub with_none : {A : Type 0} → Definition → ℕ → (ℕ → List A) → ℕ → List A
+with_none (Table def) number each = put_at number [] each
+with_none (View def) number each = each
+
 -- a history with a definition more: where it is a table's, the table is the last, and nothing has arrived there
 abbrev pub with_accepted : Accepted → History → History
 with_accepted accepted history =
     let number = length (tables_of history.schema) + 1 in
     record {
       schema = history.schema ++ accepted ∷ [];
-      arrivals = put_at number [] history.arrivals;
-      layouts = put_at number [] history.layouts;
+      arrivals = with_none accepted.definition number history.arrivals;
+      layouts = with_none accepted.definition number history.layouts;
     }
 
--- a history is lawful: its statements are accepted one after the other; what arrived in a table is of the table's form; and
--- its book is one that it can have
+-- a history is lawful: its statements are accepted one after the other; what arrived in a table came along a path that leads
+-- there; and its book is one that it can have
 pub record IsLawful (history : History) : Type 0 where
   pub schema : IsSchema history.schema
-  pub arrivals : (place : ℕ) (form : TableForm) → slice_get (forms_of history.schema) place ≡ Some form → All (IsArrival form) (history.arrivals (place + 1))
+  pub arrivals : (place : ℕ) (def : TableDef) → slice_get (tables_of history.schema) place ≡ Some def → All (IsArrival (catalog_of history.schema) (place + 1)) (history.arrivals (place + 1))
   pub books : (place : ℕ) (form : TableForm) → slice_get (forms_of history.schema) place ≡ Some form → IsLawfulBook form (book_of history (place + 1))
 
 -- the files stand for a history, which is lawful: the catalog's log has the texts of its schema, and each table's files stand

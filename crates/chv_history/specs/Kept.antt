@@ -2,10 +2,12 @@
 use Rattle.std.specs.Prelude.{ℕ, ◌≡◌, ◌+◌, Bool, true, false, ◌||◌, List, [], ◌∷◌, length, if◌then◌else◌, None, Some, Result, Ok, Err, slice_get}
 use Rattle.std.specs.List.{list_any}
 use Rattle.chv_ast.specs.declared.refusal.Refusal.{Refusal}
-use Rattle.chv_catalog.specs.Schemas.{Catalog}
+use Rattle.chv_catalog.specs.Schemas.{Catalog, with_definition}
+use Rattle.chv_catalog.specs.declared.definition.Definition.{Definition}
+use Rattle.chv_catalog.specs.declared.definition.Definition.TheVariants.{Table, View}
 use Rattle.chv_catalog.specs.declared.table_def.TableDef.{TableDef}
 use Rattle.chv_commit.specs.Replays.{State, no_state, added}
-use Rattle.chv_query.specs.Accepted.{catalog_of, with_definition}
+use Rattle.chv_query.specs.Accepted.{catalog_of}
 use Rattle.chv_query.specs.Arrivals.{Arrival}
 use Rattle.chv_query.specs.Plans.{Delivery}
 use Rattle.chv_query.specs.Queries.{Asked, made_of}
@@ -37,10 +39,18 @@ abbrev pub kept_plan : Plan → Kept → Kept
 kept_plan [] kept = kept
 kept_plan (delivery ∷ plan) kept = kept_plan plan (kept_delivery delivery kept)
 
+-- of a new table nothing is said yet; a view changes nothing
+abbrev pub with_log : Definition → ℕ → (ℕ → State) → ℕ → State
+with_log (Table def) number states = put_at number no_state states
+with_log (View def) number states = states
+
 -- what is held behind a client's statement
 abbrev pub kept_task : Result Task Refusal → Kept → Kept
 kept_task (Ok (Make accepted)) kept =
-    record { catalog = with_definition kept.catalog accepted.definition; states = put_at (length kept.catalog.tables + 1) no_state kept.states }
+    record {
+      catalog = with_definition accepted.definition kept.catalog;
+      states = with_log accepted.definition (length kept.catalog.tables + 1) kept.states;
+    }
 kept_task (Ok (Bring plan)) kept = kept_plan plan kept
 kept_task (Ok (TellRows query)) kept = kept
 kept_task (Ok (TellParts table def)) kept = kept

@@ -8,16 +8,18 @@ use Rattle.chv_ast.specs.declared.statement.Statement.TheVariants as statement
 use Rattle.chv_catalog.specs.Schemas.{Catalog}
 use Rattle.chv_catalog.specs.declared.table_def.TableDef.{TableDef}
 use Rattle.chv_commit.specs.Replays.{MAX_ENTRIES}
-use Rattle.chv_query.specs.Accepted.{Accepted, Table}
+use Rattle.chv_catalog.specs.declared.definition.Definition.TheVariants.{Table, View}
+use Rattle.chv_query.specs.Accepted.{Accepted}
 use Rattle.chv_query.specs.Definitions.{defined}
 use Rattle.chv_query.specs.Tables.{table_of}
 use Rattle.chv_query.specs.Plans.{Delivery, planned}
 use Rattle.chv_query.specs.Queries.{Asked, asked}
+use Rattle.chv_query.specs.Views.{defined_view}
 use Rattle.chv_types.specs.Steps.{and_then, refuse_if}
 use Rattle.chv_history.specs.Built.{is_built}
 use Rattle.chv_history.specs.Events.{Plan}
 
--- what a store does: it makes a table; it brings blocks; it tells the rows of a query, or the parts of the table of this number
+-- what a store does: it makes a table or a view; it brings blocks; it tells the rows of a query, or the parts of the table of this number
 -- and this definition
 pub data Task : Type 0 where
   Make : Accepted → Task
@@ -38,6 +40,8 @@ has_room plan entries =
 abbrev pub built_task : Catalog → (ℕ → ℕ) → Statement → Result Task Refusal
 built_task catalog entries (statement.CreateTable made) =
     and_then (defined catalog made) (λ def. Ok (Make (record { statement = statement.CreateTable made; definition = Table def })))
+built_task catalog entries (statement.CreateView made) =
+    and_then (defined_view catalog made) (λ def. Ok (Make (record { statement = statement.CreateView made; definition = View def })))
 built_task catalog entries (statement.Insert brought) =
     and_then (planned catalog brought) (λ plan. refuse_if (not (has_room plan entries)) LimitPassed (Ok (Bring plan)))
 built_task catalog entries (statement.Query select) = and_then (asked catalog select) (λ query. Ok (TellRows query))

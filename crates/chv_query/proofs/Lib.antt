@@ -1,5 +1,4 @@
 pub mod AcceptedLemmas
-pub mod ArrivalLemmas
 pub mod BoundLemmas
 pub mod CallLemmas
 pub mod CellLemmas
@@ -20,3 +19,4 @@ pub mod SortLemmas
 pub mod TableLemmas
 pub mod TakesLemmas
 pub mod WholeRowLemmas
+pub mod ViewLemmas

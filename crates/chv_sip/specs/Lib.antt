@@ -1,3 +1,4 @@
+pub mod Below
 pub mod BlockIds
 pub mod Sip
 pub mod SipHash

@@ -14,19 +14,19 @@ pub struct BlockId {
 
 // A key of SipHash-2-4 as its two words.
 #[derive(Clone, Copy)]
-struct Key {
-    k0: u64,
-    k1: u64,
+pub struct Key {
+    pub k0: u64,
+    pub k1: u64,
 }
 
 // The bytes 00 to 0f.
-const FIRST_KEY: Key = Key {
+pub const FIRST_KEY: Key = Key {
     k0: 0x0706_0504_0302_0100,
     k1: 0x0f0e_0d0c_0b0a_0908,
 };
 
 // The bytes 10 to 1f.
-const SECOND_KEY: Key = Key {
+pub const SECOND_KEY: Key = Key {
     k0: 0x1716_1514_1312_1110,
     k1: 0x1f1e_1d1c_1b1a_1918,
 };

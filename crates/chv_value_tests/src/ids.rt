@@ -1,5 +1,7 @@
 // Hashes that were published, and the ids of a block that was worked by hand.
-use chv_sip::{BlockId, Sip, body_hash, id_of_content, id_of_token, sip24};
+ghost use Rattle.std.specs.Prelude.{◌<◌, ◌^◌, length};
+
+use chv_sip::{Below, BlockId, Sip, body_hash, id_of_content, id_of_token, sip24};
 
 const K0: u64 = 0x0706_0504_0302_0100;
 
@@ -75,4 +77,34 @@ fn ids_are_hashes_of_what_names_a_block(rt: HostRuntime) {
     ] {
         assert!(rt; id == BlockId { first, second });
     }
+}
+
+// The id behind two views of the first block under the token 'x'.
+fn behind(first: &[u8], second: &[u8]) -> BlockId
+    requires first { length first.now < 2 ^ 32 }
+    requires second { length second.now < 2 ^ 32 }
+{
+    let mut below = Below::new(id_of_token(b"x", 0), 2);
+    below.name(first);
+    below.name(second);
+    below.finish()
+}
+
+// Worked from the format, apart from this code: the letters of two paths are the same, and their names are not.
+#[test]
+fn ids_behind_views_are_hashes_of_their_names(rt: HostRuntime) {
+    assert!(rt;
+        behind(b"w", b"by_day")
+            == BlockId {
+                first: 0x30c7_e776_509a_3104,
+                second: 0x2aef_0d0b_6519_bfbe,
+            }
+    );
+    assert!(rt;
+        behind(b"wb", b"y_day")
+            == BlockId {
+                first: 0xb5b1_1dfc_0d9a_b76a,
+                second: 0x92af_3687_7d9f_57c1,
+            }
+    );
 }
