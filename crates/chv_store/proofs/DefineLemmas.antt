@@ -1,20 +1,22 @@
--- The canonical texts of statements that make tables.
-use Rattle.std.proofs.Common.{◌≡◌, ◌≢◌, ℕ, List, Bool, true, false, not, Some, None, Ok, Err, refl, sym, ap, ◌∙◌}
+-- The canonical texts of statements that make tables and views.
+use Rattle.std.proofs.Common.{◌≡◌, ◌≢◌, ℕ, List, Bool, true, false, not, Some, None, Ok, Err, Result, refl, sym, ap, subst, ◌∙◌}
 use Rattle.std.specs.Str.{bytes_eq}
 use Rattle.std.proofs.lemmas.Slice.Eq.{bytes_eq-Decides}
 use Rattle.chv_ast.specs.Formed.{WellFormed}
 use Rattle.chv_ast.specs.declared.refusal.Refusal.{Refusal}
 use Rattle.chv_ast.specs.declared.statement.CreateTable.{CreateTable}
+use Rattle.chv_ast.specs.declared.statement.CreateView.{CreateView}
 use Rattle.chv_ast.specs.declared.statement.Statement.{Statement}
 use Rattle.chv_ast.specs.declared.statement.Statement.TheVariants as statement
 use Rattle.chv_catalog.specs.Schemas.{Catalog}
-use Rattle.chv_catalog.specs.declared.table_def.TableDef.{TableDef}
-use Rattle.chv_query.specs.Accepted.{is_built_create, is_built_table}
+use Rattle.chv_catalog.specs.declared.definition.Definition.{Definition}
+use Rattle.chv_catalog.specs.declared.definition.Definition.TheVariants.{Table, View}
+use Rattle.chv_query.specs.Accepted.{Defines, is_built_create}
 use Rattle.chv_query.specs.Definitions.{defined}
-use Rattle.chv_query.proofs.AcceptedLemmas.{defines_table}
+use Rattle.chv_query.specs.Views.{defined_view}
 use Rattle.chv_parse.specs.StatementTexts.{statement_in}
 use Rattle.chv_print.specs.StatementTexts.{statement_text}
-use Rattle.chv_store.specs.Openings.{MakesTable}
+use Rattle.chv_store.specs.Openings.{TextMakes, TextMakesNone}
 use Rattle.chv_store.proofs.ReadingLemmas.{read_formed, read_back}
 
 same_statement : (a b : Statement) → Some a ≡ Some b → a ≡ b
@@ -24,26 +26,26 @@ same_statement a b same = cc
 pub statement_read : (text : List ℕ) (s create : Statement) → statement_in text ≡ Some s → WellFormed create → text ≡ statement_text create → s ≡ create
 statement_read text s create read formed is = same_statement s create (sym read ∙ ap statement_in is ∙ read_back create formed)
 
--- a text makes no table
-abbrev pub MakesNone : Catalog → List ℕ → Type 0
-MakesNone catalog text = (create : Statement) (def : TableDef) → MakesTable catalog create def → text ≢ statement_text create
-
 -- a text that is no statement
-pub none_read : (catalog : Catalog) (text : List ℕ) → statement_in text ≡ None → MakesNone catalog text
-none_read catalog text unread create def makes is = absurd (none_some create (sym unread ∙ ap statement_in is ∙ read_back create makes.passes.formed))
+pub none_read : (catalog : Catalog) (text : List ℕ) → statement_in text ≡ None → TextMakesNone catalog text
+none_read catalog text unread create definition makes is = absurd (none_some create (sym unread ∙ ap statement_in is ∙ read_back create makes.passes.formed))
   where
     none_some : (s : Statement) → None ≡ Some s → ⊥
     none_some s same = cc same
 
--- a text of another statement than a CREATE TABLE
-pub unmade_read : (catalog : Catalog) (text : List ℕ) (s : Statement) → statement_in text ≡ Some s → ((made : CreateTable) → s ≢ statement.CreateTable made) → MakesNone catalog text
-unmade_read catalog text s read other create def makes is =
-    let table = defines_table catalog create def makes.passes.defines in
-    other table.made (statement_read text s create read makes.passes.formed is ∙ table.is)
+-- a statement that makes neither a table nor a view is not built
+pub makes_neither : (s : Statement) → ((made : CreateTable) → s ≢ statement.CreateTable made) → ((made : CreateView) → s ≢ statement.CreateView made) → is_built_create s ≡ false
+makes_neither (statement.CreateTable made) table view = absurd (table made refl)
+makes_neither (statement.CreateView made) table view = absurd (view made refl)
+makes_neither (statement.Insert brought) table view = refl
+makes_neither (statement.Query asked) table view = refl
+makes_neither (statement.ShowParts asked) table view = refl
+makes_neither (statement.Optimize asked) table view = refl
+makes_neither statement.FlushQueue table view = refl
 
 -- a text of a statement that is not built
-pub unbuilt_read : (catalog : Catalog) (text : List ℕ) (s : Statement) → statement_in text ≡ Some s → is_built_create s ≡ false → MakesNone catalog text
-unbuilt_read catalog text s read unbuilt create def makes is =
+pub unbuilt_read : (catalog : Catalog) (text : List ℕ) (s : Statement) → statement_in text ≡ Some s → is_built_create s ≡ false → TextMakesNone catalog text
+unbuilt_read catalog text s read unbuilt create definition makes is =
     let same = ap is_built_create (statement_read text s create read makes.passes.formed is) in
     absurd (other (is_built_create s) unbuilt (same ∙ makes.built))
   where
@@ -51,29 +53,36 @@ unbuilt_read catalog text s read unbuilt create def makes is =
     other b x y = cc
 
 -- a text that is not the canonical one
-pub other_text : (catalog : Catalog) (text : List ℕ) (s : Statement) → statement_in text ≡ Some s → statement_text s ≢ text → MakesNone catalog text
-other_text catalog text s read other create def makes is = other (ap statement_text (statement_read text s create read makes.passes.formed is) ∙ sym is)
+pub other_text : (catalog : Catalog) (text : List ℕ) (s : Statement) → statement_in text ≡ Some s → statement_text s ≢ text → TextMakesNone catalog text
+other_text catalog text s read other create definition makes is = other (ap statement_text (statement_read text s create read makes.passes.formed is) ∙ sym is)
 
 -- a text of a statement that is refused
-pub refused_read : (catalog : Catalog) (text : List ℕ) (made : CreateTable) (refusal : Refusal) → statement_in text ≡ Some (statement.CreateTable made) → defined catalog made ≡ Err refusal
-    → MakesNone catalog text
-refused_read catalog text made refusal read refused create def makes is =
-    let table = defines_table catalog create def makes.passes.defines in
-    let same = same_table made table.made (statement_read text (statement.CreateTable made) create read makes.passes.formed is ∙ table.is) in
-    absurd (other (sym refused ∙ ap (defined catalog) same ∙ table.defines))
-  where
-    same_table : (a b : CreateTable) → statement.CreateTable a ≡ statement.CreateTable b → a ≡ b
-    same_table a b same = cc same
+undefined_read : (catalog : Catalog) (text : List ℕ) (s : Statement) → statement_in text ≡ Some s → ((definition : Definition) → Defines catalog s definition → ⊥) → TextMakesNone catalog text
+undefined_read catalog text s read none create definition makes is =
+    absurd (none definition (subst (λ (t : Statement). Defines catalog t definition) (sym (statement_read text s create read makes.passes.formed is)) makes.passes.defines))
 
-    other : Err refusal ≡ Ok def → ⊥
-    other x = cc x
+refused_or : {A : Type 0} (r : Result A Refusal) (refusal : Refusal) (def : A) → r ≡ Err refusal → r ≡ Ok def → ⊥
+refused_or r refusal def x y = cc
+
+refused_table : (catalog : Catalog) (made : CreateTable) (refusal : Refusal) → defined catalog made ≡ Err refusal → (definition : Definition) → Defines catalog (statement.CreateTable made) definition → ⊥
+refused_table catalog made refusal refused (Table def) defines = refused_or (defined catalog made) refusal def refused defines
+refused_table catalog made refusal refused (View def) defines = defines
+
+refused_view : (catalog : Catalog) (made : CreateView) (refusal : Refusal) → defined_view catalog made ≡ Err refusal → (definition : Definition) → Defines catalog (statement.CreateView made) definition → ⊥
+refused_view catalog made refusal refused (Table def) defines = defines
+refused_view catalog made refusal refused (View def) defines = refused_or (defined_view catalog made) refusal def refused defines
+
+pub refused_table_read : (catalog : Catalog) (text : List ℕ) (made : CreateTable) (refusal : Refusal) → statement_in text ≡ Some (statement.CreateTable made) → defined catalog made ≡ Err refusal → TextMakesNone catalog text
+refused_table_read catalog text made refusal read refused = undefined_read catalog text (statement.CreateTable made) read (refused_table catalog made refusal refused)
+
+pub refused_view_read : (catalog : Catalog) (text : List ℕ) (made : CreateView) (refusal : Refusal) → statement_in text ≡ Some (statement.CreateView made) → defined_view catalog made ≡ Err refusal → TextMakesNone catalog text
+refused_view_read catalog text made refusal read refused = undefined_read catalog text (statement.CreateView made) read (refused_view catalog made refusal refused)
 
 -- a text of a statement that is accepted
-pub accepted_read : (catalog : Catalog) (text : List ℕ) (made : CreateTable) (def : TableDef) → statement_in text ≡ Some (statement.CreateTable made) → is_built_table made ≡ true
-    → statement_text (statement.CreateTable made) ≡ text → defined catalog made ≡ Ok def → (create : Statement) × MakesTable catalog create def × (text ≡ statement_text create)
-accepted_read catalog text made def read built written defines =
-    let create = statement.CreateTable made in
-    (create, record { built = built; passes = record { formed = read_formed text create read; defines = defines } }, sym written)
+pub accepted_read : (catalog : Catalog) (text : List ℕ) (s : Statement) (definition : Definition) → statement_in text ≡ Some s → is_built_create s ≡ true → statement_text s ≡ text → Defines catalog s definition
+    → TextMakes catalog text definition
+accepted_read catalog text s definition read built written defines =
+    (s, record { built = built; passes = record { formed = read_formed text s read; defines = defines } }, sym written)
 
 -- what a test says of two texts
 pub differs : (xs ys : List ℕ) (ne : Bool) → ne ≡ not (bytes_eq xs ys) → ne ≡ true → xs ≢ ys

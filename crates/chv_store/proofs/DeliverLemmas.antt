@@ -31,7 +31,7 @@ use Rattle.chv_store.specs.Calls.{BringsTo, EitherLeft, Notes, StandsFor, Turns,
 use Rattle.chv_store.specs.Holding.{HoldsBooks, HoldsLogs}
 use Rattle.chv_store.specs.Stores.{HasRoom, IsUsable, forms_of, states_of, state_of, window_of}
 use Rattle.chv_store.specs.declared.store.Store.{Store}
-use Rattle.chv_store.proofs.PlaceLemmas.{TableOf, its_form, its_state, its_window, now, set_books, set_logs, set_placed, set_room, set_states, set_states-same, set_within, stands_with, with_one-other, with_one-same}
+use Rattle.chv_store.proofs.PlaceLemmas.{TableOf, its_form, its_state, its_window, now, set_books, set_logs, set_placed, set_room, set_rooms, set_states, set_states-same, set_within, stands_with, with_one-other, with_one-same}
 
 -- where there is room for a delivery to the table of a number, there is for one to it
 pub room_at : (store : Store) (table count : ℕ) (held : Table) → TableOf store table held → HasRoom count store table → HasRoomFor count held
@@ -142,7 +142,8 @@ module _ (store : Store) (table : ℕ) (held : Table) (at : TableOf store table 
       skipped = subst (λ (s : State). (answer ≡ Skipped) ↔ Contains s.ids id) (sym (its_state store table held at)) skipped;
       schema = refl;
       states = states_with answer rows id state;
-      room = set_room store table held at new tables items room;
+      room = λ count. set_room store table held at new tables items (count + 1) count (room count);
+      rooms = set_rooms store table held at new tables items;
     }
 
     -- and may be used

@@ -15,3 +15,4 @@ pub mod ReserveLemmas
 pub mod SchemaLemmas
 pub mod SettleLemmas
 pub mod StoreLemmas
+pub mod ViewLemmas

@@ -2,7 +2,8 @@
 use Rattle.std.proofs.Common.{◌≡◌, ◌≢◌, ℕ, ◌+◌, ◌<◌, ◌≤◌, List, [], ◌∷◌, ◌++◌, length, map, Bool, true, false, cond, refl, sym, ap, subst, ◌∙◌, arith, length-append, None}
 use Rattle.std.specs.declared.alloc.Global.{Global}
 use Rattle.std.specs.declared.vec.Vec.{Vec}
-use Rattle.chv_catalog.specs.Schemas.{Catalog, Seen, with_table}
+use Rattle.chv_catalog.specs.Schemas.{Catalog, Seen, definitions_in, with_definition}
+use Rattle.chv_catalog.specs.declared.definition.Definition.TheVariants.{Table as OfTable}
 use Rattle.chv_catalog.specs.declared.table_def.TableDef.{TableDef}
 use Rattle.chv_commit.specs.Replays.{no_state}
 use Rattle.chv_commit.specs.Commits.{commit_spelling}
@@ -19,7 +20,7 @@ use Rattle.chv_table.specs.Tables.{IsPlaced as IsTablePlaced, IsWithin as IsTabl
 use Rattle.chv_table.specs.declared.table.Table.{Table}
 use Rattle.chv_table.proofs.TableLemmas.{holds_commits_kept}
 use Rattle.chv_store.specs.Holding.{HoldsBooks, HoldsLogs, with_book, with_one}
-use Rattle.chv_store.specs.Stores.{EachTable, IsHeldAs, IsPlaced, IsWithin, MAX_STEP}
+use Rattle.chv_store.specs.Stores.{EachTable, IsDefined, IsHeldAs, IsPlaced, IsWithin, MAX_STEP}
 use Rattle.chv_store.specs.declared.store.Store.{Store}
 use Rattle.chv_store.proofs.EachTableLemmas.{each-all, each-both, each-more, each-weaker, each-with-all}
 use Rattle.chv_store.proofs.PlaceLemmas.{with_one-other, with_one-same}
@@ -61,18 +62,20 @@ pub record IsMade (store : Store) (number : ℕ) (def : TableDef) (table : Table
   pub held_as : IsHeldAs number def table
   pub file : new.catalog.file ≡ store.catalog.file
   pub schema : new.schema.catalog.tables ≡ store.schema.catalog.tables ++ def ∷ []
+  pub views : new.schema.catalog.views ≡ store.schema.catalog.views
   pub tables : new.tables.items ≡ store.tables.items ++ table ∷ []
 
 -- it is made of room for the table, in the schema and among the tables
 pub is_made : (store : Store) (number : ℕ) (def : TableDef) (table : Table) (reserved : Seen) (grown : Vec Table Global) (new : Store) → IsWithin store → number ≡ length store.schema.catalog.tables + 1
     → IsTableWithin table × IsTableOf number def table × (held_state table ≡ no_state) → new.catalog.file ≡ store.catalog.file → reserved.catalog ≡ store.schema.catalog
-    → new.schema ≡ record { catalog = with_table def reserved.catalog; room = None } → grown.items ≡ store.tables.items → new.tables.items ≡ grown.items ++ table ∷ [] → IsMade store number def table new
+    → new.schema ≡ record { catalog = with_definition (OfTable def) reserved.catalog; room = None } → grown.items ≡ store.tables.items → new.tables.items ≡ grown.items ++ table ∷ [] → IsMade store number def table new
 is_made store number def table reserved grown new within number_is fresh file kept schema same tables = record {
   within = within;
   number_is = number_is;
   held_as = (fresh.0, fresh.1);
   file = file;
   schema = ap (λ (s : Seen). s.catalog.tables) schema ∙ ap (λ (catalog : Catalog). catalog.tables ++ def ∷ []) kept;
+  views = ap (λ (s : Seen). s.catalog.views) schema ∙ ap (λ (catalog : Catalog). catalog.views) kept;
   tables = tables ∙ ap (λ (ts : List Table). ts ++ table ∷ []) same;
 }
 
@@ -106,11 +109,12 @@ module _ (store : Store) (number : ℕ) (def : TableDef) (table : Table) (new : 
   one_more : length new.schema.catalog.tables ≡ number
   one_more = omega (arith, ap length made.schema, length-append store.schema.catalog.tables (def ∷ []), made.number_is)
 
-  pub made_within : length store.schema.catalog.tables < 256 → new.catalog.gate ≤ store.catalog.gate + MAX_STEP → IsWithin new
-  made_within room gate = record {
+  pub made_within : IsDefined new.schema.catalog → definitions_in store.schema.catalog < 256 → new.catalog.gate ≤ store.catalog.gate + MAX_STEP → IsWithin new
+  made_within defined room gate = record {
+    defined = defined;
     catalog = made.file ∙ made.within.catalog;
-    few = omega (arith, one_more, made.number_is, room);
-    gate = omega (arith, one_more, made.number_is, gate, made.within.gate);
+    few = omega (arith, one_more, made.number_is, ap length made.views, room);
+    gate = omega (arith, one_more, made.number_is, ap length made.views, gate, made.within.gate);
     tables = each_made IsHeldAs IsHeldAs (λ n d t low other is. is) made.within.tables made.held_as;
   }
 

@@ -181,6 +181,7 @@ module _ (store : Store) (table : ℕ) (held : Table) (at : TableOf store table 
 
     pub set_within : IsHeldAs table at.def new → IsWithin now
     set_within of_number = record {
+      defined = at.within.defined;
       catalog = at.within.catalog;
       few = at.within.few;
       gate = at.within.gate;
@@ -233,27 +234,31 @@ module _ (store : Store) (table : ℕ) (held : Table) (at : TableOf store table 
             (each-both IsHeldAs (λ n def t. HoldsCommits t before (old n)) 1 store.schema.catalog.tables store.tables.items at.within.tables holds.tables) its;
       }
 
-    -- where it takes room for one delivery, each table has room for one less
-    less_room : (count : ℕ) (t : Table) → HasRoomFor (count + 1) t → HasRoomFor count t
-    less_room count t room = record { in_memory = omega (arith, room.in_memory); in_number = omega (arith, room.in_number) }
+    -- it has the room that the call on it leaves
+    pub set_room : (was is : ℕ) → (HasRoomFor was held → HasRoomFor is new) → HasRoom was store table → HasRoom is now table
+    set_room was is takes room = record {
+      is_table = record { first = room.is_table.first; last = room.is_table.last };
+      held = new;
+      stands = ap (λ (ts : List Table). slice_get ts (table - 1)) items ∙ slice_get-set_same store.tables.items (table - 1) held new at.stands;
+      room = takes (subst (HasRoomFor was) (same_Some room.held held (sym room.stands ∙ at.stands)) room.room);
+    }
 
-    pub set_room : ((count : ℕ) → HasRoomFor (count + 1) held → HasRoomFor count new) → (number count : ℕ) → HasRoom (count + 1) store number → HasRoom count now number
-    set_room takes number count room = elim (cases_eq (number - 1) (table - 1)) as (λ _. HasRoom count now number) [
-      | inl same ↦
-          let there : slice_get store.tables.items (table - 1) ≡ Some room.held = subst (λ (p : ℕ). slice_get store.tables.items p ≡ Some room.held) same room.stands in
-          record {
-            is_table = record { first = room.is_table.first; last = room.is_table.last };
-            held = new;
-            stands = ap (λ (ts : List Table). slice_get ts (number - 1)) items ∙ ap (slice_get (slice_set store.tables.items (table - 1) new)) same ∙ slice_get-set_same store.tables.items (table - 1) held new at.stands;
-            room = takes count (subst (HasRoomFor (count + 1)) (same_Some room.held held (sym there ∙ at.stands)) room.room);
-          }
-      | inr other ↦
-          record {
-            is_table = record { first = room.is_table.first; last = room.is_table.last };
-            held = room.held;
-            stands = ap (λ (ts : List Table). slice_get ts (number - 1)) items ∙ slice_get-set_other store.tables.items (table - 1) (number - 1) new other ∙ room.stands;
-            room = less_room count room.held room.room;
-          }
+    -- and each other table has the room that it had
+    pub set_rooms : (number count : ℕ) → number ≢ table → HasRoom count store number → HasRoom count now number
+    set_rooms number count other room = record {
+      is_table = record { first = room.is_table.first; last = room.is_table.last };
+      held = room.held;
+      stands = ap (λ (ts : List Table). slice_get ts (number - 1)) items
+          ∙ slice_get-set_other store.tables.items (table - 1) (number - 1) new (λ same. other (omega (arith, same, room.is_table.first, its_number.0)))
+          ∙ room.stands;
+      room = room.room;
+    }
+
+    -- so all have what they had where it has what it had
+    pub set_room-kept : ((count : ℕ) → HasRoomFor count held → HasRoomFor count new) → (number count : ℕ) → HasRoom count store number → HasRoom count now number
+    set_room-kept takes number count room = elim (cases_eq number table) as (λ _. HasRoom count now number) [
+      | inl same ↦ subst (HasRoom count now) (sym same) (set_room count count (takes count) (subst (HasRoom count store) same room))
+      | inr other ↦ set_rooms number count other room
     ]
 
     -- it stands at its place

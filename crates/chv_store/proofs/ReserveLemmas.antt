@@ -13,7 +13,7 @@ use Rattle.chv_part.specs.Books.{AreColumns, TableForm, Book}
 use Rattle.chv_site.specs.declared.file_id.FileId.{FileId}
 use Rattle.chv_site.specs.FileIds.{table_log}
 use Rattle.chv_site.specs.Files.{FileState}
-use Rattle.chv_table.specs.Tables.{HoldsBook, HoldsCommits, IsWithin, KeepsHeld, held_form, held_state}
+use Rattle.chv_table.specs.Tables.{HasRoomFor, HoldsBook, HoldsCommits, IsWithin, KeepsHeld, held_form, held_state, spare}
 use Rattle.chv_table.specs.Tables.{IsPlaced as IsTablePlaced}
 use Rattle.chv_table.specs.declared.table.Table.{Table}
 use Rattle.chv_table.proofs.TableLemmas.{HoldsBook-by, HoldsCommits-by}
@@ -63,6 +63,13 @@ module _ (old new : Table) (kept : KeepsHeld old new) where
   holds_kept : (files : FileId → FileState) (book : Book) → HoldsBook old files book → HoldsBook new files book
   holds_kept files book held =
       HoldsBook-by new files book old.number (held_form old) (held_state old) held.commits kept.number kept.form kept.state (commits_kept files held.commits held.holds) held.lawful held.describes held.parts held.settled_parts
+
+  -- it has the room that it had
+  pub more_room : spare old ≤ spare new → (count : ℕ) → HasRoomFor count old → HasRoomFor count new
+  more_room more count room = record {
+    in_memory = omega (arith, more, room.in_memory);
+    in_number = omega (arith, ap (λ (s : State). s.entries) kept.state, room.in_number);
+  }
 
 -- so the store holds what it held
 pub holds_same : (store : Store) (table : ℕ) (held : Table) (at : TableOf store table held) (new : Table) (kept : KeepsHeld held new) (tables : Vec Table Global) (items : tables.items ≡ slice_set store.tables.items (table - 1) new)

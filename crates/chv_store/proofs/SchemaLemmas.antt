@@ -1,12 +1,11 @@
 -- Statements that are accepted one after the other, and the texts of a catalog.
-use Rattle.std.proofs.Common.{◌≡◌, ℕ, List, [], ◌∷◌, ◌++◌, map, get_or, drop, true, refl, sym, ap, ap₂, subst, append_assoc}
-use Rattle.std.proofs.lemmas.List.{append-nil}
+use Rattle.std.proofs.Common.{◌≡◌, ℕ, List, [], ◌∷◌, ◌++◌, map, get_or, drop, true, refl, sym, ap, ap₂, subst}
 use Rattle.chv_ast.specs.declared.statement.Statement.{Statement}
-use Rattle.chv_catalog.specs.Schemas.{Catalog, no_definitions}
-use Rattle.chv_catalog.specs.declared.table_def.TableDef.{TableDef}
-use Rattle.chv_query.specs.Accepted.{Accepted, AreAccepted, AreTexts, Definition, Defines, IsAccepted, IsSchema, Table as Makes, catalog_of, catalog_payload, is_built_create, tables_in, tables_of, with_definition}
-use Rattle.chv_query.proofs.AcceptedLemmas.{Defines-unique, with_schema}
-use Rattle.chv_store.specs.Openings.{MakesTable}
+use Rattle.chv_catalog.specs.Schemas.{Catalog, no_definitions, with_definition}
+use Rattle.chv_catalog.specs.declared.definition.Definition.{Definition}
+use Rattle.chv_query.specs.Accepted.{Accepted, AreAccepted, AreTexts, Defines, IsAccepted, IsSchema, catalog_of, catalog_payload, is_built_create}
+use Rattle.chv_query.proofs.AcceptedLemmas.{Defines-unique, with_schema, with_schema-cons, with_schema-nil}
+use Rattle.chv_store.specs.Openings.{MakesDefinition}
 use Rattle.chv_store.proofs.DefineLemmas.{statement_read}
 use Rattle.chv_store.proofs.ReadingLemmas.{read_back}
 
@@ -17,13 +16,9 @@ text_unique catalog a b lawful other same =
     ap₂ (λ (s : Statement) (d : Definition). record { statement = s; definition = d }) one
     (Defines-unique catalog b.statement a.definition b.definition (subst (λ (s : Statement). Defines catalog s a.definition) one lawful.defines) other.defines)
 
--- an accepted statement that is built makes a table
-made_by : (catalog : Catalog) (s : Statement) (d : Definition) → is_built_create s ≡ true → IsAccepted catalog (record { statement = s; definition = d }) → (def : TableDef) × MakesTable catalog s def
-made_by catalog s (Makes def) built is = (def, record { built = built; passes = is })
-
 -- statements that are accepted one after the other stay so where those behind another are the ones meant
-same_next : (catalog : Catalog) (a b : Accepted) (schema : List Accepted) → a ≡ b → AreAccepted (with_definition catalog b.definition) schema → AreAccepted (with_definition catalog a.definition) schema
-same_next catalog a b schema same are = subst (λ (s : Accepted). AreAccepted (with_definition catalog s.definition) schema) (sym same) are
+same_next : (catalog : Catalog) (a b : Accepted) (schema : List Accepted) → a ≡ b → AreAccepted (with_definition b.definition catalog) schema → AreAccepted (with_definition a.definition catalog) schema
+same_next catalog a b schema same are = subst (λ (s : Accepted). AreAccepted (with_definition s.definition catalog) schema) (sym same) are
 
 -- schemas whose texts are the same are the same
 accepted_unique : (catalog : Catalog) (xs ys : List Accepted) → AreAccepted catalog xs → AreAccepted catalog ys → map catalog_payload xs ≡ map catalog_payload ys → xs ≡ ys
@@ -34,7 +29,7 @@ accepted_unique catalog (x ∷ xs) (y ∷ ys) of_xs of_ys same =
     let text : catalog_payload x ≡ catalog_payload y = cc in
     let texts : map catalog_payload xs ≡ map catalog_payload ys = cc in
     let first = text_unique catalog x y of_xs.1 of_ys.1 text in
-    ap₂ (λ (a : Accepted) (l : List Accepted). a ∷ l) first (accepted_unique (with_definition catalog x.definition) xs ys of_xs.2 (same_next catalog x y ys first of_ys.2) texts)
+    ap₂ (λ (a : Accepted) (l : List Accepted). a ∷ l) first (accepted_unique (with_definition x.definition catalog) xs ys of_xs.2 (same_next catalog x y ys first of_ys.2) texts)
 
 pub schema_unique : (xs ys : List Accepted) → IsSchema xs → IsSchema ys → map catalog_payload xs ≡ map catalog_payload ys → xs ≡ ys
 schema_unique xs ys of_xs of_ys same = accepted_unique no_definitions xs ys of_xs of_ys same
@@ -45,7 +40,7 @@ first_texts : (catalog : Catalog) (xs ys : List (List ℕ)) (schema : List Accep
 first_texts catalog [] ys schema same are = ([], refl, tt)
 first_texts catalog (x ∷ xs) ys [] same are = absurd (cc same)
 first_texts catalog (x ∷ xs) ys (accepted ∷ schema) same are =
-    let rest = first_texts (with_definition catalog accepted.definition) xs ys schema (ap (λ (l : List (List ℕ)). drop 1 l) same) are.2 in
+    let rest = first_texts (with_definition accepted.definition catalog) xs ys schema (ap (λ (l : List (List ℕ)). drop 1 l) same) are.2 in
     (accepted ∷ rest.0, ap₂ (λ (p : List ℕ) (ps : List (List ℕ)). p ∷ ps) (ap (λ (l : List (List ℕ)). get_or l 0 []) same) rest.1, (are.0, are.1, rest.2))
 
 -- texts that are right stay so where the end of their list is left out
@@ -63,17 +58,16 @@ next_text : (catalog : Catalog) (schema all : List Accepted) (payload : List ℕ
     → IsNextText (with_schema catalog schema) payload
 next_text catalog [] [] payload are others same = absurd (cc same)
 next_text catalog [] (accepted ∷ all) payload are others same =
-    (accepted, others.0, subst (λ (ts : List TableDef). IsAccepted (record catalog { tables = ts }) accepted) (sym (append-nil catalog.tables)) others.1, ap (λ (l : List (List ℕ)). get_or l 0 []) same)
+    (accepted, others.0, subst (λ (c : Catalog). IsAccepted c accepted) (sym (with_schema-nil catalog)) others.1, ap (λ (l : List (List ℕ)). get_or l 0 []) same)
 next_text catalog (first ∷ schema) [] payload are others same = absurd (cc same)
 next_text catalog (first ∷ schema) (other ∷ all) payload are others same =
     let one = text_unique catalog first other are.1 others.1 (ap (λ (l : List (List ℕ)). get_or l 0 []) same) in
-    let last = next_text (with_definition catalog first.definition) schema all payload are.2 (same_next catalog first other all one others.2) (ap (λ (l : List (List ℕ)). drop 1 l) same) in
-    (last.0, last.1, subst (λ (ts : List TableDef). IsAccepted (record catalog { tables = ts }) last.0) (append_assoc catalog.tables (tables_in first.definition) (tables_of schema)) last.2, last.3)
+    let last = next_text (with_definition first.definition catalog) schema all payload are.2 (same_next catalog first other all one others.2) (ap (λ (l : List (List ℕ)). drop 1 l) same) in
+    (last.0, last.1, subst (λ (c : Catalog). IsAccepted c last.0) (with_schema-cons catalog first.definition schema) last.2, last.3)
 
--- and makes a table there
+-- and makes something there
 pub next-AreTexts : (schema : List Accepted) (payload : List ℕ) → IsSchema schema → AreTexts (map catalog_payload schema ++ payload ∷ [])
-    → (accepted : Accepted) × (def : TableDef) × MakesTable (catalog_of schema) accepted.statement def × (payload ≡ catalog_payload accepted)
+    → (accepted : Accepted) × MakesDefinition (catalog_of schema) accepted.statement accepted.definition × (payload ≡ catalog_payload accepted)
 next-AreTexts schema payload lawful right =
     let next = next_text no_definitions schema right.schema payload lawful right.lawful right.are in
-    let made = made_by (catalog_of schema) next.0.statement next.0.definition next.1 next.2 in
-    (next.0, made.0, made.1, next.3)
+    (next.0, record { built = next.1; passes = next.2 }, next.3)

@@ -83,12 +83,13 @@ states_behind Written store table rows id =
     slice_set (states_of store) (table - 1) (added (window_of store table) state.next_part rows (id ∷ []) state)
 
 -- what a delivery does to what is held, whatever the files are: it is skipped exactly where its id is among the last of its
--- table, and uses up the room of one delivery at most
+-- table, and uses up the room of one delivery to its table at most
 pub record Notes (answer : Delivered) (was is : Store) (table rows : ℕ) (id : BlockId) : Type 0 where
   pub skipped : (answer ≡ Skipped) ↔ Contains (state_of was table).ids id
   pub schema : is.schema ≡ was.schema
   pub states : states_of is ≡ states_behind answer was table rows id
-  pub room : (other count : ℕ) → HasRoom (count + 1) was other → HasRoom count is other
+  pub room : (count : ℕ) → HasRoom (count + 1) was table → HasRoom count is table
+  pub rooms : (other count : ℕ) → other ≢ table → HasRoom count was other → HasRoom count is other
 
 -- the same is held, but for room in memory
 pub record HoldsSame (was is : Store) : Type 0 where

@@ -1,11 +1,12 @@
 -- What the opening of a store finds.
-use Rattle.std.specs.Prelude.{ℕ, ◌≡◌, ◌⊎◌, true, List, map, Option, None, Some, Result, Ok, Err}
+use Rattle.std.specs.Prelude.{ℕ, ◌≡◌, ◌≢◌, ◌⊎◌, true, List, map, Option, None, Some, Result, Ok, Err}
 use Rattle.chv_ast.specs.declared.statement.Statement.{Statement}
 use Rattle.chv_catalog.specs.Schemas.{Catalog}
+use Rattle.chv_catalog.specs.declared.definition.Definition.{Definition}
 use Rattle.chv_catalog.specs.declared.table_def.TableDef.{TableDef}
 use Rattle.chv_commit.specs.Commits.{commit_spelling}
 use Rattle.chv_commit.specs.declared.commit.Commit.{Commit}
-use Rattle.chv_query.specs.Accepted.{Accepted, Table as Makes, IsAccepted, IsSchema, is_built_create, catalog_of, catalog_payload}
+use Rattle.chv_query.specs.Accepted.{Accepted, IsAccepted, IsSchema, is_built_create, catalog_of, catalog_payload}
 use Rattle.chv_gate.specs.GateLog.{HasFrames, IsReady}
 use Rattle.chv_gate.specs.Reading.{IsOpen, IsFollowed}
 use Rattle.chv_gate.specs.declared.fault.GateFault.{GateFault}
@@ -23,26 +24,34 @@ use Rattle.chv_table.specs.declared.fault.TableFault.TheVariants as table_fault
 use Rattle.chv_table.specs.declared.table.Table.{Table}
 use Rattle.chv_store.specs.Damage.{HasSchema, IsCatalogDamage, IsTableDamage}
 use Rattle.chv_store.specs.Stores.{EachTable}
-use Rattle.chv_store.specs.declared.catalog.TableRead.{TableRead}
+use Rattle.chv_store.specs.declared.catalog.DefinitionRead.{DefinitionRead}
 use Rattle.chv_store.specs.declared.fault.OpenFault.{OpenFault}
 use Rattle.chv_store.specs.declared.store.Store.{Store}
 
--- a statement makes this table beside what a catalog has: it is built, and no check refuses it
-pub record MakesTable (catalog : Catalog) (create : Statement) (def : TableDef) : Type 0 where
+-- a statement makes this beside what a catalog has: it is built, and no check refuses it
+pub record MakesDefinition (catalog : Catalog) (create : Statement) (definition : Definition) : Type 0 where
   pub built : is_built_create create ≡ true
-  pub passes : IsAccepted catalog (record { statement = create; definition = Makes def })
+  pub passes : IsAccepted catalog (record { statement = create; definition = definition })
+
+-- a text is the canonical one of a statement that makes this
+abbrev pub TextMakes : Catalog → List ℕ → Definition → Type 0
+TextMakes catalog text definition = (create : Statement) × MakesDefinition catalog create definition × (text ≡ statement_text create)
+
+-- a text is the canonical one of no statement that makes anything
+abbrev pub TextMakesNone : Catalog → List ℕ → Type 0
+TextMakesNone catalog text = (create : Statement) (definition : Definition) → MakesDefinition catalog create definition → text ≢ statement_text create
 
 -- what is read behind a gate of the catalog's log, beside what is defined: the end, at a gate that is not open; else
--- the table that a statement makes, whose text follows that gate, and the next gate
-abbrev pub ReadsTable : Catalog → ℕ → List ℕ → Option TableRead → Type 0
-ReadsTable catalog gate file None = IsOpen gate file → ⊥
-ReadsTable catalog gate file (Some read) =
-    (create : Statement) × MakesTable catalog create read.def × IsOpen gate file × IsFollowed gate (statement_text create) read.next file
+-- what a statement makes, whose text follows that gate, and the next gate
+abbrev pub ReadsDefinition : Catalog → ℕ → List ℕ → Option DefinitionRead → Type 0
+ReadsDefinition catalog gate file None = IsOpen gate file → ⊥
+ReadsDefinition catalog gate file (Some read) =
+    (create : Statement) × MakesDefinition catalog create read.definition × IsOpen gate file × IsFollowed gate (statement_text create) read.next file
 
--- no text of a statement that makes a table there follows an open gate
-pub record LacksTable (catalog : Catalog) (gate : ℕ) (file : List ℕ) : Type 0 where
+-- no text of a statement that makes something there follows an open gate
+pub record LacksDefinition (catalog : Catalog) (gate : ℕ) (file : List ℕ) : Type 0 where
   pub opened : IsOpen gate file
-  pub none : (create : Statement) (def : TableDef) (next : ℕ) → MakesTable catalog create def → IsFollowed gate (statement_text create) next file → ⊥
+  pub none : (create : Statement) (definition : Definition) (next : ℕ) → MakesDefinition catalog create definition → IsFollowed gate (statement_text create) next file → ⊥
 
 -- this is what a catalog has: before and now its log has the texts of the schema that defines it, and at this gate it is ready
 -- behind them

@@ -1,9 +1,10 @@
 -- What is held of a store, beside its files.
 use Rattle.std.specs.Prelude.{ℕ, ◌≡◌, ◌+◌, ◌-◌, ◌*◌, ◌<◌, ◌≤◌, List, [], ◌∷◌, length, map, get_or, Option, None, Some, slice_get}
 use Rattle.std.specs.List.{All}
-use Rattle.chv_catalog.specs.Schemas.{MAX_DEFINITIONS}
+use Rattle.chv_catalog.specs.Schemas.{Catalog, MAX_DEFINITIONS, definitions_in}
 use Rattle.chv_catalog.specs.declared.table_def.TableDef.{TableDef}
 use Rattle.chv_commit.specs.Replays.{State, no_state}
+use Rattle.chv_query.specs.Accepted.{Accepted, IsSchema, catalog_of}
 use Rattle.chv_part.specs.Books.{TableForm}
 use Rattle.chv_part.specs.Forms.{form_of}
 use Rattle.chv_site.specs.FileIds.{catalog_log}
@@ -31,11 +32,16 @@ IsHeldAs number def table = IsTableWithin table × IsTableOf number def table
 abbrev pub MAX_STEP : ℕ
 MAX_STEP = 1048581
 
--- the numbers that are held of a store, whatever its files hold
+-- this is what statements define that are accepted one after the other
+abbrev pub IsDefined : Catalog → Type 0
+IsDefined catalog = (schema : List Accepted) × IsSchema schema × (catalog_of schema ≡ catalog)
+
+-- what is held of a store, whatever its files hold
 pub record IsWithin (store : Store) : Type 0 where
+  pub defined : IsDefined store.schema.catalog
   pub catalog : store.catalog.file ≡ catalog_log
-  pub few : length store.schema.catalog.tables ≤ MAX_DEFINITIONS
-  pub gate : store.catalog.gate ≤ MAX_STEP * length store.schema.catalog.tables
+  pub few : definitions_in store.schema.catalog ≤ MAX_DEFINITIONS
+  pub gate : store.catalog.gate ≤ MAX_STEP * definitions_in store.schema.catalog
   pub tables : EachTable IsHeldAs 1 store.schema.catalog.tables store.tables.items
 
 -- the standing gate of each log is in its file, whatever the files hold

@@ -21,9 +21,11 @@ impl Store {
     pub fn reserve(&mut self, table: u32, count: u64) -> Result<bool, AllocError>
         requires within { IsWithin self.old }
         requires table { IsTable self.old table }
-        requires few { count ≤ 1048576 }
+        requires few { count ≤ 4294967296 }
         ensures fits { IfOk result (λ fits. fits ≡ not (nat_lt MAX_ENTRIES ((state_of self.old table).entries + count))) }
         ensures room { IfOk result (λ fits. fits ≡ true → HasRoom count self.new table) }
+        // Room that a table has stays.
+        ensures kept { (other room : ℕ) → HasRoom room self.old other → HasRoom room self.new other }
         ensures same { HoldsSame self.old self.new }
     {
         let held = &mut self.tables[table as usize - 1];

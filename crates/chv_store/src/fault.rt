@@ -3,7 +3,7 @@ use chv_catalog::Schema;
 use chv_table::TableFault;
 
 /// Why a store was not opened.
-#[derive(Debug, Drop)]
+#[derive(Drop)]
 pub struct OpenFault {
     /// The fault; damage is that of the first log that is damaged.
     pub fault: TableFault,

@@ -8,7 +8,7 @@ use chv_gate::Log;
 use chv_table::Table;
 
 /// A store: what is held of its logs, so that none is read again.
-#[derive(Debug, Drop)]
+#[derive(Drop)]
 pub struct Store {
     /// The catalog's log.
     pub(crate) catalog: Log,

@@ -1,7 +1,8 @@
 -- The table that a canonical text makes.
 use Rattle.std.proofs.Common.{sym, ◌∙◌}
 use Rattle.chv_ast.specs.declared.statement.Statement.TheVariants as statement
-use Rattle.chv_store.proofs.DefineLemmas.{unbuilt_read, other_text, refused_read, accepted_read, differs, is_same}
+use Rattle.chv_catalog.specs.declared.definition.Definition.TheVariants.{Table}
+use Rattle.chv_store.proofs.DefineLemmas.{unbuilt_read, other_text, refused_table_read, accepted_read, differs, is_same}
 use Rattle.chv_store.proofs.defining.table_of.Goals as goal
 
 pub returns-then-not-is_built_table-clause-none : goal.returns-then-not-is_built_table-clause-none
@@ -14,8 +15,8 @@ returns-then-ne-clause-none c =
 
 pub returns-in-Ok-clause-some : goal.returns-in-Ok-clause-some
 returns-in-Ok-clause-some c =
-    accepted_read c.args.schema.now.catalog c.args.text.now c.args.made.now c.in-Ok.def c.requires.read (sym c.is_built_table.ensures ∙ c.if-not-is_built_table.false) (sym (c.as_slice.ensures.value ∙ c.in_ok-canonical.ensures) ∙ is_same c.as_slice.result.now c.args.text.now c.ne.result c.ne.ensures c.if-ne.false) c.in-Ok.ensures.defined
+    accepted_read c.args.schema.now.catalog c.args.text.now (statement.CreateTable c.args.made.now) (Table c.in-Ok.def) c.requires.read (sym c.is_built_table.ensures ∙ c.if-not-is_built_table.false) (sym (c.as_slice.ensures.value ∙ c.in_ok-canonical.ensures) ∙ is_same c.as_slice.result.now c.args.text.now c.ne.result c.ne.ensures c.if-ne.false) c.in-Ok.ensures.defined
 
 pub returns-in-Err-Refused-clause-none : goal.returns-in-Err-Refused-clause-none
 returns-in-Err-Refused-clause-none c =
-    refused_read c.args.schema.now.catalog c.args.text.now c.args.made.now c.in-Err-Refused.field-0-0 c.requires.read (c.in-Err-Refused.ensures.refused c.in-Err-Refused.field-0-0 (search))
+    refused_table_read c.args.schema.now.catalog c.args.text.now c.args.made.now c.in-Err-Refused.field-0-0 c.requires.read (c.in-Err-Refused.ensures.refused c.in-Err-Refused.field-0-0 (search))

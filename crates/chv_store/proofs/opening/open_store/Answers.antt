@@ -1,12 +1,20 @@
 -- The catalog is opened, and then the tables.
-use Rattle.std.proofs.Common.{inr, map, Err, refl, ap, ◌∙◌, arith}
+use Rattle.std.proofs.Common.{inr, map, Err, refl, sym, ap, ◌∙◌, arith}
+use Rattle.std.specs.Prelude.{IsErrOf}
 use Rattle.chv_query.specs.Accepted.{catalog_payload, tables_of}
 use Rattle.chv_part.specs.Forms.{form_of}
-use Rattle.chv_site.specs.FileIds.{table_log}
+use Rattle.chv_site.specs.FileIds.{catalog_log, table_log}
 use Rattle.chv_site.specs.declared.file_id.FileId.{FileId}
 use Rattle.chv_store.specs.declared.store.Store.{Store}
+use Rattle.chv_table.specs.declared.fault.TableFault.{TableFault}
+use Rattle.chv_store.proofs.BeginLemmas.{begins_log, begins_then}
+use Rattle.chv_store.proofs.CatalogLemmas.{defined_columns}
 use Rattle.chv_store.proofs.OpenLemmas.{are_tables, catalog_during, holds_store, mid_settles, opens_as, store_during, table_damaged}
 use Rattle.chv_store.proofs.opening.open_store.Goals as goal
+
+-- the tables have columns
+pub open_tables-requires : goal.open_tables-requires
+open_tables-requires g c = record { columns = defined_columns c.open_catalog.new.schema.catalog c.in-Ok.ensures.defined.0 }
 
 pub returns-in-Err-clause-during : goal.returns-in-Err-clause-during
 returns-in-Err-clause-during g c tells schema books lawful settles =
@@ -65,3 +73,11 @@ returns-in-Err-open_tables-clause-during g c tells schema books lawful settles =
     store_during schema catalog.tables books old mid (g.W.Site.outside c.open_tables.new.site) settles (are_tables catalog gate old.files mid.files others holds schema books lawful settles)
     (c.open_catalog.ensures.keeps.said tells) (c.open_catalog.ensures.during tells)
     (c.open_tables.ensures.during tells (map catalog_payload schema) books (mid_settles catalog gate old.files mid.files others holds schema books lawful settles))
+
+pub returns-in-Err-open_tables-clause-keeps : goal.returns-in-Err-open_tables-clause-keeps
+returns-in-Err-open_tables-clause-keeps g c =
+    let old = g.W.Site.outside c.args.site.now in
+    let mid = g.W.Site.outside c.open_catalog.new.site in
+    begins_then g.W.Site.tells (IsErrOf c.open_catalog.result TableFault.Failed) (IsErrOf c.open_tables.result TableFault.Failed) _ old mid (g.W.Site.outside c.open_tables.new.site)
+    (λ is. cc (sym c.in-Ok.is ∙ is)) (λ is. c.in-Err-open_tables.is ∙ ap Err is) (λ is. cc (sym c.in-Err-open_tables.is ∙ is))
+    (begins_log g.W.Site.tells _ catalog_log old mid refl c.open_catalog.ensures.kept c.open_catalog.ensures.keeps) c.open_tables.ensures.keeps

@@ -2,8 +2,8 @@
 use Rattle.std.proofs.Common.{◌-◌, refl, ap, arith}
 use Rattle.std.specs.Vec.{with_item}
 use Rattle.chv_commit.specs.Replays.{MAX_ENTRIES, State}
-use Rattle.chv_store.proofs.PlaceLemmas.{items_within, its_state, set_stands, table_of}
-use Rattle.chv_store.proofs.ReserveLemmas.{enough, holds_same, same_held, too_many}
+use Rattle.chv_store.proofs.PlaceLemmas.{items_within, its_state, set_room-kept, set_stands, table_of}
+use Rattle.chv_store.proofs.ReserveLemmas.{enough, holds_same, more_room, same_held, too_many}
 use Rattle.chv_store.proofs.store.Store.reserve.Goals as goal
 
 pub index_mut-held-requires : goal.index_mut-held-requires
@@ -29,7 +29,22 @@ returns-then-entries-count-gt-MAX_ENTRIES-clause-same c =
     let at = table_of self c.args.table held c.requires.within c.requires.table c.index_mut-held.ensures.value in
     holds_same self c.args.table held at held (same_held held) (with_item self.tables (c.args.table - 1) held) refl
 
+pub returns-then-entries-count-gt-MAX_ENTRIES-clause-kept : goal.returns-then-entries-count-gt-MAX_ENTRIES-clause-kept
+returns-then-entries-count-gt-MAX_ENTRIES-clause-kept c =
+    let self = c.args.self.now in
+    let held = c.index_mut-held.result.now in
+    let at = table_of self c.args.table held c.requires.within c.requires.table c.index_mut-held.ensures.value in
+    set_room-kept self c.args.table held at held (with_item self.tables (c.args.table - 1) held) refl (λ count room. room)
+
 -- where no memory is left
+pub returns-in_err-reserve-clause-kept : goal.returns-in_err-reserve-clause-kept
+returns-in_err-reserve-clause-kept c =
+    let self = c.args.self.now in
+    let held = c.index_mut-held.result.now in
+    let new = c.reserve.new.self in
+    let at = table_of self c.args.table held c.requires.within c.requires.table c.index_mut-held.ensures.value in
+    set_room-kept self c.args.table held at new (with_item self.tables (c.args.table - 1) new) refl (more_room held new c.reserve.ensures.same c.reserve.ensures.kept)
+
 pub returns-in_err-reserve-clause-same : goal.returns-in_err-reserve-clause-same
 returns-in_err-reserve-clause-same c =
     let self = c.args.self.now in
@@ -59,6 +74,14 @@ returns-clause-room c = λ _.
       stands = set_stands self c.args.table held at new (with_item self.tables (c.args.table - 1) new) refl;
       room = record { in_memory = c.in_ok-reserve.ensures.room; in_number = omega (arith, entries, c.entries.ensures, c.if-entries-count-gt-MAX_ENTRIES.false) };
     }
+
+pub returns-clause-kept : goal.returns-clause-kept
+returns-clause-kept c =
+    let self = c.args.self.now in
+    let held = c.index_mut-held.result.now in
+    let new = c.reserve.new.self in
+    let at = table_of self c.args.table held c.requires.within c.requires.table c.index_mut-held.ensures.value in
+    set_room-kept self c.args.table held at new (with_item self.tables (c.args.table - 1) new) refl (more_room held new c.reserve.ensures.same c.reserve.ensures.kept)
 
 pub returns-clause-same : goal.returns-clause-same
 returns-clause-same c =
