@@ -1,5 +1,5 @@
 // CREATE MATERIALIZED VIEW.
-ghost use Rattle.std.specs.Prelude.{◌≡◌, ◌≤◌, ◌∷◌, [], length, Ok, Err, IfOk, IfErr};
+ghost use Rattle.std.specs.Prelude.{◌≡◌, ◌≤◌, length, Ok, Err, IfOk, IfErr};
 ghost use Rattle.chv_ast.specs.declared.refusal.Refusal.{Refusal};
 ghost use Rattle.chv_define.specs.Checks.{checked_paths, linked, number_in};
 ghost use Rattle.chv_query.specs.Views.{defined_view, view_with};
