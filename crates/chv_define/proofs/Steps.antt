@@ -7,7 +7,7 @@ use Rattle.chv_catalog.proofs.StepLemmas.{and_then-refuse_if}
 use Rattle.chv_catalog.specs.Schemas.{Catalog}
 use Rattle.chv_types.specs.Steps.{and_then}
 use Rattle.chv_types.specs.declared.table.Column.{Column}
-use Rattle.chv_define.specs.Checks.{checked_key, checked_names, checked_text}
+use Rattle.chv_define.specs.Checks.{checked_free, checked_key, checked_names, checked_text}
 use Rattle.chv_query.specs.Definitions.{columns_of, defined, table_with, window_of}
 
 module _ (catalog : Catalog) (made : CreateTable) where

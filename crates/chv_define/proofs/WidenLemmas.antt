@@ -1,10 +1,7 @@
 -- One kind's values may stand in a column of another.
-use Rattle.std.proofs.Common.{◌≡◌, ◌∙◌, ◌↔◌, ◌⊎◌, ◌×◌, ◌+◌, ◌-◌, ◌≤ℤ◌, ◌&&◌, ◌||◌, ℕ, ℤ, Bool, true, false, List, [], ◌∷◌, Option, None, Some, IsSome, slice_get, refl, sym, ap, arith, rules}
-use Rattle.std.specs.Prelude.{int_le}
-use Rattle.std.specs.Str.{bytes_eq}
-use Rattle.std.proofs.lemmas.Bool.{and_from, and_parts, or_cases, or_left, or_right}
+use Rattle.std.proofs.Common.{◌≡◌, ◌∙◌, ◌↔◌, ◌⊎◌, inl, inr, ◌+◌, ◌-◌, ◌≤ℤ◌, ◌||◌, ℤ, Bool, true, false, List, [], ◌∷◌, Option, None, Some, IsSome, slice_get, refl, sym, ap, arith, rules}
+use Rattle.std.proofs.lemmas.Bool.{or_left, or_right}
 use Rattle.std.proofs.lemmas.Slice.Eq.{bytes_eq-Decides}
-use Rattle.mathlib.Core.Logic.{inl, inr}
 use Rattle.chv_agg.specs.Plain.{scalar_code}
 use Rattle.chv_agg.specs.StateBytes.{agg_number}
 use Rattle.chv_block.specs.Spellings.{kind_code}
@@ -19,7 +16,7 @@ use Rattle.chv_types.specs.declared.kind.Scalar.{Scalar}
 use Rattle.chv_types.specs.declared.kind.Scalar.TheVariants as scalar
 
 -- the kinds of plain values, in the order of their codes
-plains : List Scalar
+abbrev plains : List Scalar
 plains =
     scalar.UInt8 ∷ scalar.UInt16 ∷ scalar.UInt32 ∷ scalar.UInt64 ∷ scalar.Int8 ∷ scalar.Int16 ∷ scalar.Int32 ∷ scalar.Int64 ∷ scalar.Bool ∷ scalar.Text ∷ []
 
@@ -37,7 +34,7 @@ plain_at scalar.Bool = refl
 plain_at scalar.Text = refl
 
 -- the functions, in the order of their numbers
-functions : List AggName
+abbrev functions : List AggName
 functions = agg.Count ∷ agg.Sum ∷ agg.Min ∷ agg.Max ∷ agg.UniqExact ∷ []
 
 -- a function is known by its number
@@ -101,6 +98,7 @@ widens_to-parts from to = (there (kind_eq from to) (is_wider from to) (kind_eq-s
     there : {A B : Type 0} (a b : Bool) → (a ≡ true) ↔ A → (b ≡ true) ↔ B → (a || b) ≡ true → A ⊎ B
     there true b one two is = inl (one.0 refl)
     there false b one two is = inr (two.0 is)
+
     back : (from ≡ to) ⊎ Widens from to → (kind_eq from to || is_wider from to) ≡ true
     back (inl same) = or_left (kind_eq from to) (is_wider from to) ((kind_eq-same from to).1 same)
     back (inr wide) = or_right (kind_eq from to) (is_wider from to) ((is_wider-Widens from to).1 wide)

@@ -1,8 +1,8 @@
 // CREATE MATERIALIZED VIEW.
-ghost use Rattle.std.specs.Prelude.{◌≡◌, ◌≤◌, ◌∷◌, [], length, Ok, Err, IfOk, IfErr};
+ghost use Rattle.std.specs.Prelude.{◌≡◌, ◌≤◌, length, Ok, Err, IfOk, IfErr};
 ghost use Rattle.chv_ast.specs.declared.refusal.Refusal.{Refusal};
 ghost use Rattle.chv_define.specs.Checks.{checked_paths, linked, number_in};
-ghost use Rattle.chv_query.specs.Views.{defined_view};
+ghost use Rattle.chv_query.specs.Views.{defined_view, view_with};
 
 use crate::checks::{check_free, check_view_text, refuse_if};
 use crate::outputs::check_select;
@@ -20,12 +20,7 @@ pub fn define_view(
     ensures defined { IfOk result (λ def. defined_view schema.now.catalog made ≡ Ok def) }
     ensures refused { IfErr result (λ fault. (refusal : Refusal) → fault ≡ StatementFault.Refused refusal → defined_view schema.now.catalog made ≡ Err refusal) }
 {
-    check_free(schema, &made.name)?;
-    let link = link_of(schema, &made)?;
-    let target = schema.table_def(link.target);
-    check_select(alloc, schema, &made.select, &target.columns)?;
-    check_paths(schema, link)?;
-    check_view_text(alloc, &made)?;
+    let link = check_view(alloc, schema, &made)?;
     let CreateView { name, select, .. } = made;
     Ok(ViewDef {
         name,
@@ -33,6 +28,20 @@ pub fn define_view(
         target: link.target,
         select,
     })
+}
+
+// The tables that a view links, or the first check that refuses it.
+fn check_view(alloc: Global, schema: &Schema, made: &CreateView) -> Result<Link, StatementFault>
+    ensures passed { IfOk result (λ link. defined_view schema.now.catalog made.now ≡ Ok (view_with made.now link.source link.target)) }
+    ensures refused { IfErr result (λ fault. (refusal : Refusal) → fault ≡ StatementFault.Refused refusal → defined_view schema.now.catalog made.now ≡ Err refusal) }
+{
+    check_free(schema, &made.name)?;
+    let link = link_of(schema, made)?;
+    let target = schema.table_def(link.target);
+    check_select(alloc, schema, &made.select, &target.columns)?;
+    check_paths(schema, link)?;
+    check_view_text(alloc, made)?;
+    Ok(link)
 }
 
 // The tables that a view links, which both stand.
