@@ -1,5 +1,6 @@
 pub mod AcknowledgedLemmas
 pub mod ArrivingLemmas
+pub mod Assumed
 pub mod CommitLemmas
 pub mod EntryLemmas
 pub mod KeptLemmas
@@ -11,5 +12,6 @@ pub mod RunLemmas
 pub mod SpacedLemmas
 pub mod StandingLemmas
 pub mod TaskLemmas
+pub mod ViewLemmas
 pub mod WhileLemmas
 pub mod WholeLemmas

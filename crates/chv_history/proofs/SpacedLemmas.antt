@@ -9,9 +9,9 @@ use Rattle.chv_part.specs.Books.{IsSpaced}
 use Rattle.chv_part.proofs.BookLemmas.{IsSpaced-fresh}
 use Rattle.chv_query.specs.Arrivals.{Arrival}
 use Rattle.chv_history.specs.Events.{Event, Created, Committed, Replied, Moment, behind, happen, with_commit, written_in}
-use Rattle.chv_history.specs.Histories.{History, ids_in, put_at, window_at, window_in, with_accepted}
+use Rattle.chv_history.specs.Histories.{History, ids_in, window_at, window_in, with_accepted, with_none}
 use Rattle.chv_history.specs.Spaced.{AreSpaced}
-use Rattle.chv_history.proofs.ArrivingLemmas.{put_at-same, put_at-other}
+use Rattle.chv_history.proofs.ArrivingLemmas.{with_none-new, with_none-other}
 use Rattle.chv_history.proofs.CommitLemmas.{arrivals-other, arrivals-with_commit, schema-with_commit}
 use Rattle.chv_history.proofs.LawfulLemmas.{table_cases}
 
@@ -19,15 +19,17 @@ use Rattle.chv_history.proofs.LawfulLemmas.{table_cases}
 IsSpaced-none : (window : ℕ) → IsSpaced window []
 IsSpaced-none window = record { apart = λ older between newer id same. absurd (omega (arith, ap length same, length-append older (id ∷ (between ++ id ∷ newer)))) }
 
--- a table is made
+-- a table or a view is made
 spaced_created : (accepted : Accepted) (history : History) → AreSpaced history → AreSpaced (with_accepted accepted history)
 spaced_created accepted history spaced place def stands =
     let number = length (tables_of history.schema) + 1 in
     let Spaced : List Arrival → Type 0 = λ arrivals. IsSpaced def.window (ids_in arrivals) in
     elim (table_cases (tables_of history.schema) accepted.definition place def (subst (λ (defs : List TableDef). slice_get defs place ≡ Some def) (tables_of-push history.schema accepted) stands))
-    as (λ _. Spaced (put_at number [] history.arrivals (place + 1))) [
-      | inl old ↦ subst Spaced (sym (put_at-other number (place + 1) [] history.arrivals (λ same. absurd (omega (arith, same, old.0))))) (spaced place def old.1)
-      | inr last ↦ subst (λ (p : ℕ). Spaced (put_at number [] history.arrivals (p + 1))) (sym last) (subst Spaced (sym (put_at-same number [] history.arrivals)) (IsSpaced-none def.window))
+    as (λ _. Spaced (with_none accepted.definition number history.arrivals (place + 1))) [
+      | inl old ↦ subst Spaced (sym (with_none-other accepted.definition number (place + 1) history.arrivals (λ same. absurd (omega (arith, same, old.0))))) (spaced place def old.1)
+      | inr new ↦
+          subst (λ (p : ℕ). Spaced (with_none accepted.definition number history.arrivals (p + 1))) (sym new.0)
+          (subst Spaced (sym (with_none-new accepted.definition def number history.arrivals new.1)) (IsSpaced-none def.window))
     ]
 
 -- blocks arrive

@@ -1,6 +1,7 @@
 // What holds of all histories, as laws on the definitions.
 ghost use Rattle.std.specs.Prelude.{◌≡◌, ◌⊎◌, ◌+◌, ◌≤◌, ◌∷◌, ◌++◌, Bool, List, ℕ, length};
 ghost use Rattle.std.specs.List.{All};
+ghost use Rattle.chv_query.specs.Accepted.{IsSchema};
 ghost use Rattle.chv_site.specs.Images.{Image};
 ghost use Rattle.chv_history.specs.Acknowledged.{IsAcknowledged, IsHeld, IsWhole, IsWholeInBooks, AreApart, SameTokenSameBlock, IdsNameOne};
 ghost use Rattle.chv_history.specs.Crashes.{IsLeftBy};
@@ -23,14 +24,14 @@ pub fn law_acknowledged()
 /// At each moment of a run the history holds every insert that the run has acknowledged: each of its deliveries has an entry
 /// with its id.
 pub fn law_held()
-    ensures { (requests : List Request) (history : History) (done left : List Event) → run_events requests (begins history) ≡ done ++ left
+    ensures { (requests : List Request) (history : History) (done left : List Event) → IsSchema history.schema → run_events requests (begins history) ≡ done ++ left
         → All (IsHeld (behind done (begins history)).history) (behind done (begins history)).acknowledged }
 {}
 
 /// Every insert that a run has acknowledged stands whole: its entries, where ids name one; its blocks and what they go by,
-/// where different names have different ids and one token and number is that of one block.
+/// where what goes by different things has different ids and one token and number is that of one block.
 pub fn law_whole()
-    ensures entries { (requests : List Request) (history : History) (done left : List Event) → run_events requests (begins history) ≡ done ++ left
+    ensures entries { (requests : List Request) (history : History) (done left : List Event) → IsSchema history.schema → run_events requests (begins history) ≡ done ++ left
         → IdsNameOne (behind done (begins history))
         → All (IsWholeInBooks (behind done (begins history)).history) (behind done (begins history)).acknowledged }
     ensures blocks { (requests : List Request) (history : History) (done left : List Event) → IsLawful history → AreFormed requests
@@ -48,7 +49,7 @@ pub fn law_spaced()
 
 /// Where what is held is that of a history, it stays so in a run, which refuses a statement as what is held says.
 pub fn law_kept()
-    ensures { (requests : List Request) (kept : Kept) (history : History) → IsKeptOf kept history
+    ensures { (requests : List Request) (kept : Kept) (history : History) → IsSchema history.schema → IsKeptOf kept history
         → IsKeptOf (kept_behind requests kept) (behind (run_events requests (begins history)) (begins history)).history
         × Refuses requests kept (behind (run_events requests (begins history)) (begins history)).refused }
 {}

@@ -148,7 +148,7 @@ new_view catalog accepted def defines =
     })
 
 -- each view of a catalog is one with a definition more
-views-more : (definition : Definition) (catalog : Catalog) (accepted : Accepted) → definition ≡ accepted.definition → Defines catalog accepted.statement definition → All (IsViewIn catalog) catalog.views
+pub views-more : (definition : Definition) (catalog : Catalog) (accepted : Accepted) → definition ≡ accepted.definition → Defines catalog accepted.statement definition → All (IsViewIn catalog) catalog.views
     → All (IsViewIn (with_definition definition catalog)) (with_definition definition catalog).views
 views-more (Table new) catalog accepted is defines all = All-weaker (IsViewIn catalog) (IsViewIn (with_definition (Table new) catalog)) (λ view of. IsViewIn-more (Table new) catalog view of) catalog.views all
 views-more (View new) catalog accepted is defines all =
