@@ -24,9 +24,9 @@ use Rattle.chv_history.specs.Tasks.{Task, Bring, Make, TellParts, TellRows, task
 use Rattle.chv_history.specs.Told.{parts_text, query_text, table_rows}
 use Rattle.chv_history.proofs.ArrivingLemmas.{among_all, with_none-other}
 use Rattle.chv_history.proofs.CommitLemmas.{arrivals-other, arrivals-with_arrivals, arrivals-with_commit, is_skipped, schema-with_commit, with_commit-new, with_commit-skipped}
-use Rattle.chv_history.proofs.LookupLemmas.{planned-within}
+use Rattle.chv_history.proofs.FillingLemmas.{Filling, filling_request}
+use Rattle.chv_history.proofs.LookupLemmas.{AreFilling, planned-within}
 use Rattle.chv_history.proofs.TaskLemmas.{task_holds}
-use Rattle.chv_history.proofs.ViewLemmas.{AreViews, Viewed, viewed_request}
 use Rattle.chv_history.proofs.WhileLemmas.{While, while_behind, while_both, while_last, while_run, while-append}
 
 -- lists with equal firsts and rests
@@ -234,26 +234,28 @@ holding_answer client (Err refuses) done m known held = holding_reply (refused_l
 planned_known : (plans : Result Plan Refusal) (plan : Plan) (P : Plan → Type 0) → IfOk plans P → plans ≡ Ok plan → P plan
 planned_known plans plan P holds same = subst (λ (r : Result Plan Refusal). IfOk r P) same holds
 
-pub known_task : (asked : Option Statement) (history : History) → AreViews (catalog_of history.schema) → IfOk (task_of (catalog_of history.schema) (entries_in history) asked) (TaskKnown history)
-known_task asked history views =
+pub known_task : (asked : Option Statement) (history : History) → AreFilling (catalog_of history.schema) → IfOk (task_of (catalog_of history.schema) (entries_in history) asked) (TaskKnown history)
+known_task asked history filling =
     task_holds (catalog_of history.schema) (entries_in history) (TaskKnown history) (λ select query asks. tt) (λ table def. tt) asked (λ accepted is built defines. tt)
-    (λ brought is plan brings room. planned_known (planned (catalog_of history.schema) brought) plan (All (IsKnown history)) (planned-within (catalog_of history.schema) views brought) brings)
+    (λ brought is plan brings room. planned_known (planned (catalog_of history.schema) brought) plan (All (IsKnown history)) (planned-within (catalog_of history.schema) filling brought) brings)
 
-abbrev Both : List Event → Moment → Type 0
-Both done m = Viewed done m × Held done m
+abbrev pub FillingHeld : List Event → Moment → Type 0
+FillingHeld done m = Filling done m × Held done m
 
--- while requests are answered the history holds what is acknowledged
-holding_run : (requests : List Request) (m : Moment) → AreViews (catalog_of m.history.schema) → Holding m → While Both [] (run_events requests m) m
-holding_run requests m views held =
-    while_run Both (λ (request : Request). Unit {0})
-    (λ request done n asks both.
-    while_both Viewed Held (request_events request n.history) done n (viewed_request request done n both.0)
-    (holding_answer request.client (task_of (catalog_of n.history.schema) (entries_in n.history) request.statement) done n (known_task request.statement n.history both.0) both.1))
-    requests [] m (λ k d within. tt) (views, held)
+-- while a request is answered the history holds what is acknowledged
+pub holding_request : (request : Request) (done : List Event) (m : Moment) → FillingHeld done m → While FillingHeld done (request_events request m.history) m
+holding_request request done m both =
+    while_both Filling Held (request_events request m.history) done m (filling_request request done m both.0)
+    (holding_answer request.client (task_of (catalog_of m.history.schema) (entries_in m.history) request.statement) done m (known_task request.statement m.history both.0) both.1)
+
+-- so it does while all are
+holding_run : (requests : List Request) (m : Moment) → AreFilling (catalog_of m.history.schema) → Holding m → While FillingHeld [] (run_events requests m) m
+holding_run requests m filling held =
+    while_run FillingHeld (λ (request : Request). Unit {0}) (λ request done n asks both. holding_request request done n both) requests [] m (λ k d within. tt) (filling, held)
 
 -- at the moment behind the events that are done
-pub holding_behind : (requests : List Request) (m : Moment) (done left : List Event) → AreViews (catalog_of m.history.schema) → Holding m → run_events requests m ≡ done ++ left → Holding (behind done m)
-holding_behind requests m done left views held split = (while_behind Both requests m done left (holding_run requests m views held) split).1
+pub holding_behind : (requests : List Request) (m : Moment) (done left : List Event) → AreFilling (catalog_of m.history.schema) → Holding m → run_events requests m ≡ done ++ left → Holding (behind done m)
+holding_behind requests m done left filling held split = (while_behind FillingHeld requests m done left (holding_run requests m filling held) split).1
 
 -- nothing is acknowledged yet
 pub holding_none : (m : Moment) → m.acknowledged ≡ [] → Holding m

@@ -17,7 +17,6 @@ use Rattle.chv_catalog.specs.declared.table_def.TableDef.{TableDef}
 use Rattle.chv_commit.specs.Replays.{MAX_ENTRIES, State, added, no_state}
 use Rattle.chv_query.specs.Accepted.{Accepted, IsSchema, catalog_of, tables_in, tables_of}
 use Rattle.chv_query.proofs.AcceptedLemmas.{catalog_of-push}
-use Rattle.chv_query.proofs.GrowthLemmas.{schema-views}
 use Rattle.chv_part.specs.Forms.{form_of}
 use Rattle.chv_query.specs.Arrivals.{Arrival}
 use Rattle.chv_query.specs.Plans.{Delivery, planned}
@@ -38,10 +37,10 @@ use Rattle.chv_history.specs.Told.{table_rows}
 use Rattle.chv_history.proofs.ArrivingLemmas.{put_at-same, put_at-other, with_none-new, with_none-other}
 use Rattle.chv_history.proofs.CommitLemmas.{arrivals-other, arrivals-with_arrivals, is_skipped, schema-with_commit, with_commit-new, with_commit-skipped}
 use Rattle.chv_history.proofs.LawfulLemmas.{table_cases}
+use Rattle.chv_history.proofs.FillingLemmas.{Filling, filling_request}
 use Rattle.chv_history.proofs.LeftLemmas.{behind-append}
-use Rattle.chv_history.proofs.LookupLemmas.{planned-within, table_at}
+use Rattle.chv_history.proofs.LookupLemmas.{AreFilling, planned-within, schema-filling, table_at}
 use Rattle.chv_history.proofs.RequestLemmas.{behind-cons, deliveries_refused, or_assoc, or_false}
-use Rattle.chv_history.proofs.ViewLemmas.{AreViews, Viewed, viewed_request}
 use Rattle.chv_history.proofs.WhileLemmas.{while_last}
 
 -- of one table: as many entries, and the last of their ids
@@ -231,19 +230,19 @@ bring_agrees : (tables : List TableDef) (one two : ℕ → ℕ) (plans : Result 
 bring_agrees tables one two (Ok plan) agree known = ap (λ (b : Bool). refuse_if (not b) LimitPassed (Ok (Bring plan))) (room_agrees tables one two plan plan agree known)
 bring_agrees tables one two (Err refuses) agree known = refl
 
-built_agrees : (catalog : Catalog) (one two : ℕ → ℕ) (asked : Statement) → AreViews catalog → Agree catalog.tables one two → built_task catalog one asked ≡ built_task catalog two asked
-built_agrees catalog one two (statement.CreateTable made) views agree = refl
-built_agrees catalog one two (statement.Insert brought) views agree = bring_agrees catalog.tables one two (planned catalog brought) agree (planned-within catalog views brought)
-built_agrees catalog one two (statement.Query select) views agree = refl
-built_agrees catalog one two (statement.ShowParts asked) views agree = refl
-built_agrees catalog one two (statement.CreateView asked) views agree = refl
-built_agrees catalog one two (statement.Optimize asked) views agree = refl
-built_agrees catalog one two statement.FlushQueue views agree = refl
+built_agrees : (catalog : Catalog) (one two : ℕ → ℕ) (asked : Statement) → AreFilling catalog → Agree catalog.tables one two → built_task catalog one asked ≡ built_task catalog two asked
+built_agrees catalog one two (statement.CreateTable made) filling agree = refl
+built_agrees catalog one two (statement.Insert brought) filling agree = bring_agrees catalog.tables one two (planned catalog brought) agree (planned-within catalog filling brought)
+built_agrees catalog one two (statement.Query select) filling agree = refl
+built_agrees catalog one two (statement.ShowParts asked) filling agree = refl
+built_agrees catalog one two (statement.CreateView asked) filling agree = refl
+built_agrees catalog one two (statement.Optimize asked) filling agree = refl
+built_agrees catalog one two statement.FlushQueue filling agree = refl
 
 -- so the task of a statement is the same
-pub task_agrees : (catalog : Catalog) (one two : ℕ → ℕ) (asked : Option Statement) → AreViews catalog → Agree catalog.tables one two → task_of catalog one asked ≡ task_of catalog two asked
-task_agrees catalog one two None views agree = refl
-task_agrees catalog one two (Some asked) views agree = ap (refuse_if (not (is_built asked)) NotBuilt) (built_agrees catalog one two asked views agree)
+pub task_agrees : (catalog : Catalog) (one two : ℕ → ℕ) (asked : Option Statement) → AreFilling catalog → Agree catalog.tables one two → task_of catalog one asked ≡ task_of catalog two asked
+task_agrees catalog one two None filling agree = refl
+task_agrees catalog one two (Some asked) filling agree = ap (refuse_if (not (is_built asked)) NotBuilt) (built_agrees catalog one two asked filling agree)
 
 -- what is held agrees with its history
 pub kept_agrees : (kept : Kept) (history : History) → IsKeptOf kept history → Agree kept.catalog.tables (entries_kept kept) (entries_in history)
@@ -253,10 +252,10 @@ kept_agrees kept history is table first last =
     subst (λ (n : ℕ). entries_kept kept n ≡ entries_in history n) place (is.entries (table - 1) at.0 at.1)
 
 -- so a request has the same task by what is held
-pub kept_request : (request : Request) (kept : Kept) (history : History) → AreViews (catalog_of history.schema) → IsKeptOf kept history → task_of (catalog_of history.schema) (entries_in history) request.statement ≡ kept_answer request kept
-kept_request request kept history views is =
+pub kept_request : (request : Request) (kept : Kept) (history : History) → AreFilling (catalog_of history.schema) → IsKeptOf kept history → task_of (catalog_of history.schema) (entries_in history) request.statement ≡ kept_answer request kept
+kept_request request kept history filling is =
     ap (λ (catalog : Catalog). task_of catalog (entries_in history) request.statement) (sym is.catalog)
-    ∙ sym (task_agrees kept.catalog (entries_kept kept) (entries_in history) request.statement (subst AreViews (sym is.catalog) views) (kept_agrees kept history is))
+    ∙ sym (task_agrees kept.catalog (entries_kept kept) (entries_in history) request.statement (subst AreFilling (sym is.catalog) filling) (kept_agrees kept history is))
 
 -- a moment behind requests is marked where one was refused before, or one of them is
 pub record MarksAll (requests : List Request) (kept : Kept) (before after : Bool) : Type 0 where
@@ -273,11 +272,11 @@ marks_more request requests kept before between after one rest = record {
 }
 
 -- what is held stays that of the history in a run, which refuses a statement as what is held says
-pub kept_run : (requests : List Request) (kept : Kept) (m : Moment) → AreViews (catalog_of m.history.schema) → IsKeptOf kept m.history
+pub kept_run : (requests : List Request) (kept : Kept) (m : Moment) → AreFilling (catalog_of m.history.schema) → IsKeptOf kept m.history
     → IsKeptOf (kept_behind requests kept) (behind (run_events requests m) m).history × MarksAll requests kept m.refused (behind (run_events requests m) m).refused
-kept_run [] kept m views is = (is, record { later = false; marks = or_false m.refused; refuses = refl })
-kept_run (request ∷ requests) kept m views is =
-    let task = kept_request request kept m.history views is in
+kept_run [] kept m filling is = (is, record { later = false; marks = or_false m.refused; refuses = refl })
+kept_run (request ∷ requests) kept m filling is =
+    let task = kept_request request kept m.history filling is in
     let events = request_events request m.history in
     let by : events ≡ answer_events request.client (kept_answer request kept) m.history = ap (λ (t : Result Task Refusal). answer_events request.client t m.history) task in
     let next = behind events m in
@@ -285,7 +284,7 @@ kept_run (request ∷ requests) kept m views is =
     subst (λ (es : List Event). IsKeptOf (kept_task (kept_answer request kept) kept) (behind es m).history) (sym by) (kept_answered request.client (kept_answer request kept) kept m is) in
     let mark : MarksAnswer (kept_answer request kept) m.refused next.refused =
     subst (λ (es : List Event). MarksAnswer (kept_answer request kept) m.refused (behind es m).refused) (sym by) (refused_answered request.client (kept_answer request kept) m) in
-    let seen : AreViews (catalog_of next.history.schema) = while_last Viewed events [] m (viewed_request request [] m views) in
+    let seen : AreFilling (catalog_of next.history.schema) = while_last Filling events [] m (filling_request request [] m filling) in
     let rest = kept_run requests (kept_task (kept_answer request kept) kept) next seen held in
     let last = behind (run_events requests next) next in
     let all = behind-cons request requests m in (
@@ -297,7 +296,7 @@ kept_run (request ∷ requests) kept m views is =
 pub kept_begun : (requests : List Request) (kept : Kept) (history : History) → IsSchema history.schema → IsKeptOf kept history
     → IsKeptOf (kept_behind requests kept) (behind (run_events requests (begins history)) (begins history)).history × Refuses requests kept (behind (run_events requests (begins history)) (begins history)).refused
 kept_begun requests kept history schema is =
-    let all = kept_run requests kept (begins history) (schema-views history.schema schema) is in
+    let all = kept_run requests kept (begins history) (schema-filling history.schema schema) is in
     (all.0, subst (Refuses requests kept) (sym all.1.marks) all.1.refuses)
 
 -- of a new store nothing is held

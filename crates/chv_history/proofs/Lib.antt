@@ -3,15 +3,16 @@ pub mod ArrivingLemmas
 pub mod Assumed
 pub mod CommitLemmas
 pub mod EntryLemmas
+pub mod FillingLemmas
 pub mod KeptLemmas
 pub mod LawfulLemmas
 pub mod LeftLemmas
+pub mod LifeLemmas
 pub mod LookupLemmas
 pub mod RequestLemmas
 pub mod RunLemmas
 pub mod SpacedLemmas
 pub mod StandingLemmas
 pub mod TaskLemmas
-pub mod ViewLemmas
 pub mod WhileLemmas
 pub mod WholeLemmas

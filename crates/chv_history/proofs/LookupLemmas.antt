@@ -1,32 +1,39 @@
 -- Which table a name names, and that what is planned, or asked, is for one that stands.
-use Rattle.std.proofs.Common.{◌≡◌, ℕ, zero, suc, ◌+◌, ◌-◌, ◌<◌, ◌≤◌, List, [], ◌∷◌, length, Bool, true, false, Option, None, Some, Ok, Err, IfOk, slice_get, option_map, refl, sym, ap₂, subst, ◌∙◌, arith}
+use Rattle.std.proofs.Common.{◌≡◌, ℕ, zero, suc, ◌+◌, ◌-◌, ◌<◌, ◌≤◌, List, [], ◌∷◌, length, Bool, true, false, Option, None, Some, Ok, Err, IfOk, slice_get, option_map, ◌++◌, refl, sym, ap, ap₂, subst, ◌∙◌, arith}
 use Rattle.std.specs.Prelude.{Result, nat_lt}
 use Rattle.std.specs.List.{All, list_any}
+use Rattle.std.proofs.lemmas.List.{length-append}
 use Rattle.std.proofs.lemmas.List.Elements.{All-append, All-cons, All-filter, All-map, All-nil, All-weaker}
 use Rattle.std.proofs.lemmas.Option.{slice_get_within}
 use Rattle.chv_ast.specs.declared.refusal.Refusal.{Refusal}
 use Rattle.chv_ast.specs.declared.refusal.Refusal.TheVariants.{UnknownTable, UnknownColumn, NameTaken, TypeMismatch, DivisionByZero, LimitPassed}
 use Rattle.chv_ast.specs.declared.statement.Insert.{Insert}
 use Rattle.chv_ast.specs.declared.statement.Select.{Select}
+use Rattle.chv_ast.specs.declared.statement.Statement.{Statement}
 use Rattle.chv_block.specs.Blocks.{blocks_of}
 use Rattle.chv_block.specs.declared.squasher.Sizes.{Sizes}
 use Rattle.chv_catalog.specs.Checks.{has_repeat, is_unknown, is_state, places_of}
-use Rattle.chv_catalog.specs.Paths.{IsPath, MAX_PATH, links_of, paths_from}
+use Rattle.chv_catalog.specs.Paths.{IsPath, MAX_PATH, end_of, links_of, paths_from, target_of}
 use Rattle.chv_catalog.specs.Walks.{IsPathWithin}
-use Rattle.chv_catalog.specs.Schemas.{Catalog, columns_of, kinds_of, table_names}
-use Rattle.chv_catalog.specs.declared.definition.Definition.TheVariants.{Table}
+use Rattle.chv_catalog.specs.Schemas.{Catalog, columns_of, kinds_of, table_names, with_definition}
+use Rattle.chv_catalog.specs.declared.definition.Definition.{Definition}
+use Rattle.chv_catalog.specs.declared.definition.Definition.TheVariants.{Table, View}
+use Rattle.chv_catalog.specs.declared.link.Link.{Link}
 use Rattle.chv_catalog.specs.declared.table_def.TableDef.{TableDef}
+use Rattle.chv_catalog.specs.declared.view_def.ViewDef.{ViewDef}
 use Rattle.chv_catalog.proofs.PathLemmas.{paths_from-are}
 use Rattle.chv_catalog.proofs.SchemaLemmas.{place_of-within, length-table_names}
 use Rattle.chv_part.specs.Books.{MAX_ROWS}
+use Rattle.chv_query.specs.Accepted.{Accepted, Defines, IsSchema, catalog_of}
 use Rattle.chv_query.specs.Arrivals.{end_at}
-use Rattle.chv_query.specs.Derived.{def_at}
 use Rattle.chv_query.specs.Outputs.{filter_of}
 use Rattle.chv_query.specs.Plans.{Delivery, block_deliveries, deliveries_for, deliveries_of, delivery_along, divides_below, filled_names, is_long, kinds_at, paths_for, planned, planned_for, rows_for, sized_rows, sizes_for, source_of}
 use Rattle.chv_query.specs.Queries.{Asked, asked, asked_of, limit_of, sorts_of}
 use Rattle.chv_query.specs.Shapes.{shape_of}
 use Rattle.chv_query.specs.Tables.{table_of}
-use Rattle.chv_query.proofs.GrowthLemmas.{IsViewIn, end_stands}
+use Rattle.chv_query.proofs.AcceptedLemmas.{defines_view}
+use Rattle.chv_query.proofs.GrowthLemmas.{All-at, IsViewIn, linked, schema-views}
+use Rattle.chv_query.proofs.ViewLemmas.{passed_view}
 use Rattle.chv_sip.specs.BlockIds.{SourceKey}
 use Rattle.chv_types.specs.Names.{place_of}
 use Rattle.chv_types.specs.Steps.{refuse_if, and_then}
@@ -129,9 +136,13 @@ pub asked_stands : (catalog : Catalog) (select : Select) (query : Asked) → ask
 unfolding asked
 asked_stands catalog select query asks = asked_by catalog select query (table_of catalog select.table) refl asks
 
+-- the number of a table that stands
+abbrev pub StandsIn : Catalog → ℕ → Type 0
+StandsIn catalog table = (1 ≤ table) × (table ≤ length catalog.tables)
+
 -- a delivery goes to a table that stands
 abbrev pub GoesTo : Catalog → Delivery → Type 0
-GoesTo catalog d = (1 ≤ d.table) × (d.table ≤ length catalog.tables)
+GoesTo catalog d = StandsIn catalog d.table
 
 -- what passes all checks is planned
 checked-plan : {A S : Type 0} (unknown twice state long many : Bool) (sizes : Result S Refusal) (rows : Result A Refusal) (plan : S → A → Result (List Delivery) Refusal) (P : List Delivery → Type 0)
@@ -150,12 +161,44 @@ undivided : (divides : Bool) (plan : List Delivery) (P : List Delivery → Type 
 undivided true plan P holds = tt
 undivided false plan P holds = holds
 
--- where each view of a catalog is between tables that stand, blocks are delivered to tables that stand
-module _ (catalog : Catalog) (views : All (IsViewIn catalog) catalog.views) (table : ℕ) (def : TableDef) (numbered : 1 ≤ table) (stands : def_at catalog table ≡ Some def) where
+-- each view of a catalog fills a table that stands
+abbrev pub AreFilling : Catalog → Type 0
+AreFilling catalog = All (λ (view : ViewDef). StandsIn catalog view.target) catalog.views
+
+-- so do the views of a schema
+pub schema-filling : (schema : List Accepted) → IsSchema schema → AreFilling (catalog_of schema)
+schema-filling schema lawful =
+    let catalog = catalog_of schema in
+    All-weaker (IsViewIn catalog) (λ (view : ViewDef). StandsIn catalog view.target)
+    (λ view is. (is.target_numbered, omega (arith, is.target_numbered, slice_get_within catalog.tables (view.target - 1) is.target is.writes))) catalog.views (schema-views schema lawful)
+
+-- and with a definition more
+pub filling-more : (definition : Definition) (catalog : Catalog) (s : Statement) → Defines catalog s definition → AreFilling catalog → AreFilling (with_definition definition catalog)
+filling-more (Table new) catalog s defines filling =
+    All-weaker (λ (view : ViewDef). StandsIn catalog view.target) (λ (view : ViewDef). StandsIn (with_definition (Table new) catalog) view.target)
+    (λ view is. (is.0, omega (arith, is.1, length-append catalog.tables (new ∷ [])))) catalog.views filling
+filling-more (View new) catalog s defines filling =
+    let Filling : ViewDef → Type 0 = λ view. StandsIn catalog view.target in
+    let view = defines_view catalog s new defines in
+    let checks = passed_view catalog view.made new view.defines in
+    let target = table_of-found catalog view.made.target checks.target checks.target_is in
+    All-append Filling catalog.views (new ∷ []) filling (All-cons Filling new [] (subst Filling checks.is (target.first, target.last)) (All-nil Filling))
+
+-- where each view fills a table that stands, a path from one ends at one
+ends_within : (catalog : Catalog) → AreFilling catalog → (table : ℕ) (path : List ℕ) → StandsIn catalog table → IsPath (links_of catalog.views) table path → StandsIn catalog (end_at catalog table path)
+ends_within catalog filling table [] within is = within
+ends_within catalog filling table (view ∷ path) within is =
+    let links = links_of catalog.views in
+    let there = linked catalog view is.0 is.1 in
+    let filled = All-at (λ (v : ViewDef). StandsIn catalog v.target) catalog.views view there.def filling there.at in
+    let same : there.def.target ≡ is.0.target = ap (λ (link : Link). link.target) there.is in
+    let next : target_of links view ≡ is.0.target = rw is.1 refl in
+    subst (λ (t : ℕ). StandsIn catalog (end_of links t path)) (sym next) (ends_within catalog filling is.0.target path (subst (StandsIn catalog) same filled) is.3)
+
+-- so blocks are delivered to tables that stand
+module _ (catalog : Catalog) (filling : AreFilling catalog) (table : ℕ) (def : TableDef) (within : StandsIn catalog table) where
   along : (source : SourceKey) (block : List (List Value)) (path : List ℕ) → IsPath (links_of catalog.views) table path → GoesTo catalog (delivery_along catalog table source block path)
-  along source block path is =
-      let end = end_stands (Table def) catalog views table def path numbered stands is in
-      (end.1, omega (arith, end.1, slice_get_within catalog.tables (end_at catalog table path - 1) end.0 end.2))
+  along source block path is = ends_within catalog filling table path within is
 
   block_goes : (source : SourceKey) (block : List (List Value)) → All (GoesTo catalog) (block_deliveries catalog table source block)
   block_goes source block =
@@ -186,14 +229,14 @@ module _ (catalog : Catalog) (views : All (IsViewIn catalog) catalog.views) (tab
       undivided (list_any (divides_below catalog table) (blocks sizes written)) (deliveries_of catalog table (kinds_of def) settings.token 0 (blocks sizes written)) (All (GoesTo catalog))
       (deliveries_go settings.token 0 (blocks sizes written)))
 
-goes_by : (catalog : Catalog) → All (IsViewIn catalog) catalog.views → (brought : Insert) (found : Result (ℕ × TableDef) Refusal) → table_of catalog brought.table ≡ found
+goes_by : (catalog : Catalog) → AreFilling catalog → (brought : Insert) (found : Result (ℕ × TableDef) Refusal) → table_of catalog brought.table ≡ found
     → IfOk (and_then found (λ f. planned_for catalog f.0 f.1 brought)) (All (GoesTo catalog))
-goes_by catalog views brought (Ok found) is =
+goes_by catalog filling brought (Ok found) is =
     let at = table_of-found catalog brought.table found is in
-    planned_for-goes catalog views found.0 found.1 at.first at.stands brought
-goes_by catalog views brought (Err refusal) is = tt
+    planned_for-goes catalog filling found.0 found.1 (at.first, at.last) brought
+goes_by catalog filling brought (Err refusal) is = tt
 
 -- each delivery that is planned goes to a table
-pub planned-within : (catalog : Catalog) → All (IsViewIn catalog) catalog.views → (brought : Insert) → IfOk (planned catalog brought) (All (GoesTo catalog))
+pub planned-within : (catalog : Catalog) → AreFilling catalog → (brought : Insert) → IfOk (planned catalog brought) (All (GoesTo catalog))
 unfolding planned
-planned-within catalog views brought = goes_by catalog views brought (table_of catalog brought.table) refl
+planned-within catalog filling brought = goes_by catalog filling brought (table_of catalog brought.table) refl

@@ -10,12 +10,12 @@ use Rattle.chv_catalog.specs.declared.table_def.TableDef.{TableDef}
 use Rattle.chv_commit.specs.Replays.{MAX_ENTRIES}
 use Rattle.chv_query.specs.Accepted.{Accepted, IsAccepted, catalog_of, is_built_create, tables_of}
 use Rattle.chv_query.specs.Plans.{Delivery, planned}
+use Rattle.chv_query.proofs.ArrivalLemmas.{ArrivesIn, planned-arrives}
 use Rattle.chv_history.specs.Events.{Event, Plan, Moment, behind, happen}
 use Rattle.chv_history.specs.Histories.{History, IsLawful}
 use Rattle.chv_history.specs.Runs.{answer_events, delivered, delivery_event, entries_in, request_events, run_events, task_events}
 use Rattle.chv_history.specs.Script.{Request, AreFormed, IsFormed}
 use Rattle.chv_history.specs.Tasks.{Task, Bring, Make, TellParts, TellRows, deliveries_to, has_room, task_of}
-use Rattle.chv_history.proofs.Assumed.{ArrivesIn, planned-arrives}
 use Rattle.chv_history.proofs.CommitLemmas.{arrivals-other, is_skipped, schema-with_commit, written_in-new, written_in-skipped}
 use Rattle.chv_history.proofs.EntryLemmas.{entries_in-commit}
 use Rattle.chv_history.proofs.LawfulLemmas.{MayArrive, lawful_accepted, lawful_arrived}

@@ -11,6 +11,7 @@ use Rattle.chv_catalog.specs.declared.table_def.TableDef.{TableDef}
 use Rattle.chv_query.specs.Accepted.{Accepted, IsSchema, catalog_of, tables_of}
 use Rattle.chv_query.specs.Derived.{def_at}
 use Rattle.chv_query.proofs.AcceptedLemmas.{IsSchema-push, catalog_of-push}
+use Rattle.chv_query.proofs.ArrivalLemmas.{ArrivesIn}
 use Rattle.chv_query.proofs.GrowthLemmas.{IsArrival-more, def_at-more}
 use Rattle.chv_part.specs.Arriving.{fresh}
 use Rattle.chv_part.specs.Books.{Entry, MAX_ROWS}
@@ -34,7 +35,6 @@ use Rattle.chv_history.specs.Tasks.{Task, Bring, Make, TellParts, TellRows, task
 use Rattle.chv_history.specs.Told.{parts_text, query_text, table_rows}
 use Rattle.chv_history.proofs.AcknowledgedLemmas.{Holding}
 use Rattle.chv_history.proofs.ArrivingLemmas.{with_none-among}
-use Rattle.chv_history.proofs.Assumed.{ArrivesIn}
 use Rattle.chv_history.proofs.CommitLemmas.{arrivals-with_commit, arrivals-other, schema-with_commit}
 use Rattle.chv_history.proofs.RunLemmas.{Lawful, TaskSound, lawful_request, sound_task}
 use Rattle.chv_history.proofs.WhileLemmas.{While, while_behind, while_both, while_last, while_run, while-append}
@@ -180,13 +180,18 @@ brought_answer : (client : ℕ) (task : Result Task Refusal) (done : List Event)
 brought_answer client (Ok task) done m brought = brought_task client task done m brought
 brought_answer client (Err refuses) done m brought = brought_reply (refused_line client refuses) true done m brought
 
+pub brought_request : (request : Request) (done : List Event) (m : Moment) → Brought done m → While Brought done (request_events request m.history) m
+brought_request request done m brought = brought_answer request.client (task_of (catalog_of m.history.schema) (entries_in m.history) request.statement) done m brought
+
+-- nothing is acknowledged yet
+pub brought_none : (m : Moment) → m.acknowledged ≡ [] → Brought [] m
+brought_none m none = subst (All (IsBrought [])) (sym none) (All-nil (IsBrought []))
+
 -- what a run acknowledges it has brought
 pub brought_behind : (requests : List Request) (m : Moment) (done left : List Event) → m.acknowledged ≡ [] → run_events requests m ≡ done ++ left → Brought done (behind done m)
 brought_behind requests m done left none split =
     while_behind Brought requests m done left
-    (while_run Brought (λ (request : Request). Unit {0})
-    (λ request before n asks brought. brought_answer request.client (task_of (catalog_of n.history.schema) (entries_in n.history) request.statement) before n brought)
-    requests [] m (λ k d within. tt) (subst (All (IsBrought [])) (sym none) (All-nil (IsBrought []))))
+    (while_run Brought (λ (request : Request). Unit {0}) (λ request before n asks brought. brought_request request before n brought) requests [] m (λ k d within. tt) (brought_none m none))
     split
 
 -- each acknowledged delivery is of an arrival in its table
@@ -248,21 +253,25 @@ arriving_answer : (client : ℕ) (task : Result Task Refusal) (done : List Event
 arriving_answer client (Ok task) done m lawful sound arriving = arriving_task client task done m lawful sound arriving
 arriving_answer client (Err refuses) done m lawful sound arriving = arriving_reply (refused_line client refuses) true done m arriving
 
-abbrev Both : List Event → Moment → Type 0
-Both done m = Lawful done m × Arriving done m
+abbrev pub LawfulArriving : List Event → Moment → Type 0
+LawfulArriving done m = Lawful done m × Arriving done m
+
+pub arriving_request : (request : Request) (done : List Event) (m : Moment) → IsFormed request → LawfulArriving done m → While LawfulArriving done (request_events request m.history) m
+arriving_request request done m formed both =
+    while_both Lawful Arriving (request_events request m.history) done m (lawful_request request done m formed both.0)
+    (arriving_answer request.client (task_of (catalog_of m.history.schema) (entries_in m.history) request.statement) done m both.0 (sound_task request m.history both.0 formed) both.1)
+
+-- nothing is acknowledged yet
+pub arriving_none : (m : Moment) → m.acknowledged ≡ [] → Arriving [] m
+arriving_none m none =
+    let Arrives = All (ArrivesIn (catalog_of m.history.schema)) in
+    subst (All Arrives) (sym none) (All-nil Arrives)
 
 -- so it is in a run of a lawful history, which stays lawful
 pub arriving_behind : (requests : List Request) (m : Moment) (done left : List Event) → IsLawful m.history → AreFormed requests → m.acknowledged ≡ [] → run_events requests m ≡ done ++ left
     → IsLawful (behind done m).history × Arriving done (behind done m)
 arriving_behind requests m done left lawful formed none split =
-    while_behind Both requests m done left
-    (while_run Both IsFormed
-    (λ request before n asks both.
-    while_both Lawful Arriving (request_events request n.history) before n (lawful_request request before n asks both.0)
-    (arriving_answer request.client (task_of (catalog_of n.history.schema) (entries_in n.history) request.statement) before n both.0 (sound_task request n.history both.0 asks) both.1))
-    requests [] m formed
-    (lawful, subst (All (All (ArrivesIn (catalog_of m.history.schema)))) (sym none) (All-nil (All (ArrivesIn (catalog_of m.history.schema))))))
-    split
+    while_behind LawfulArriving requests m done left (while_run LawfulArriving IsFormed arriving_request requests [] m formed (lawful, arriving_none m none)) split
 
 -- blocks of these kinds that go by the same are the same, where one token and number is that of one block
 same_named : (kinds : List Kind) (a b : List (List Value)) (source : SourceKey) → AllAreOf kinds a → AllAreOf kinds b → length a ≤ MAX_ROWS → length b ≤ MAX_ROWS → Names kinds a source → Names kinds b source
