@@ -2,10 +2,12 @@
 use Rattle.std.proofs.Common.{◌≡◌, ℕ, Option, Result, Ok, Err, IfOk, List, [], ◌∷◌, ◌++◌, map, refl, sym, subst}
 use Rattle.chv_ast.specs.declared.refusal.Refusal.{Refusal}
 use Rattle.chv_ast.specs.declared.statement.Statement.{Statement}
+use Rattle.chv_catalog.specs.Schemas.{Catalog}
 use Rattle.chv_query.specs.Accepted.{Accepted, Defines, catalog_of}
 use Rattle.chv_query.proofs.AcceptedLemmas.{catalog_of-push}
 use Rattle.chv_history.specs.Events.{Event, Plan, Moment, behind, happen}
 use Rattle.chv_history.specs.Histories.{History, with_accepted}
+use Rattle.chv_history.specs.Kept.{Kept, entries_kept, kept_answer, kept_delivery, kept_plan, kept_task}
 use Rattle.chv_history.specs.Runs.{answer_events, delivery_event, entries_in, request_events, task_events}
 use Rattle.chv_history.specs.Script.{Request}
 use Rattle.chv_history.specs.Tasks.{Task, Bring, Make, TellParts, TellRows, task_of}
@@ -34,17 +36,32 @@ filling_deliveries (d ∷ plan) done m filling = (
 )
 
 -- what a task makes is defined
-abbrev TaskDefines : History → Task → Type 0
-TaskDefines history (Make accepted) = Defines (catalog_of history.schema) accepted.statement accepted.definition
-TaskDefines history (Bring plan) = Unit {0}
-TaskDefines history (TellRows query) = Unit {0}
-TaskDefines history (TellParts table def) = Unit {0}
+abbrev TaskDefines : Catalog → Task → Type 0
+TaskDefines catalog (Make accepted) = Defines catalog accepted.statement accepted.definition
+TaskDefines catalog (Bring plan) = Unit {0}
+TaskDefines catalog (TellRows query) = Unit {0}
+TaskDefines catalog (TellParts table def) = Unit {0}
 
-task_defines : (asked : Option Statement) (history : History) → IfOk (task_of (catalog_of history.schema) (entries_in history) asked) (TaskDefines history)
-task_defines asked history =
-    task_holds (catalog_of history.schema) (entries_in history) (TaskDefines history) (λ select query asks. tt) (λ table def. tt) asked (λ accepted is built defines. defines) (λ brought is plan brings room. tt)
+task_defines : (catalog : Catalog) (entries : ℕ → ℕ) (asked : Option Statement) → IfOk (task_of catalog entries asked) (TaskDefines catalog)
+task_defines catalog entries asked = task_holds catalog entries (TaskDefines catalog) (λ select query asks. tt) (λ table def. tt) asked (λ accepted is built defines. defines) (λ brought is plan brings room. tt)
 
-filling_task : (client : ℕ) (task : Task) (done : List Event) (m : Moment) → TaskDefines m.history task → Filling done m → While Filling done (task_events client task m.history) m
+-- so it is of what is held, whatever the files hold
+filling_plan : (plan : Plan) (kept : Kept) → (kept_plan plan kept).catalog ≡ kept.catalog
+filling_plan [] kept = refl
+filling_plan (d ∷ plan) kept = filling_plan plan (kept_delivery d kept)
+
+filling_held : (task : Result Task Refusal) (kept : Kept) → IfOk task (TaskDefines kept.catalog) → AreFilling kept.catalog → AreFilling (kept_task task kept).catalog
+filling_held (Ok (Make accepted)) kept defines filling = filling-more accepted.definition kept.catalog accepted.statement defines filling
+filling_held (Ok (Bring plan)) kept defines filling = subst AreFilling (sym (filling_plan plan kept)) filling
+filling_held (Ok (TellRows query)) kept defines filling = filling
+filling_held (Ok (TellParts table def)) kept defines filling = filling
+filling_held (Err refuses) kept defines filling = filling
+
+pub filling_kept : (request : Request) (kept : Kept) → AreFilling kept.catalog → AreFilling (kept_task (kept_answer request kept) kept).catalog
+filling_kept request kept filling = filling_held (kept_answer request kept) kept (task_defines kept.catalog (entries_kept kept) request.statement) filling
+
+-- and while a task is done
+filling_task : (client : ℕ) (task : Task) (done : List Event) (m : Moment) → TaskDefines (catalog_of m.history.schema) task → Filling done m → While Filling done (task_events client task m.history) m
 filling_task client (Make accepted) done m defines filling =
     let made = filling_accepted accepted m.history defines filling in
     (filling, (made, made))
@@ -56,11 +73,11 @@ filling_task client (Bring plan) done m defines filling =
 filling_task client (TellRows query) done m defines filling = (filling, filling)
 filling_task client (TellParts table def) done m defines filling = (filling, filling)
 
-filling_answer : (client : ℕ) (task : Result Task Refusal) (done : List Event) (m : Moment) → IfOk task (TaskDefines m.history) → Filling done m → While Filling done (answer_events client task m.history) m
+filling_answer : (client : ℕ) (task : Result Task Refusal) (done : List Event) (m : Moment) → IfOk task (TaskDefines (catalog_of m.history.schema)) → Filling done m → While Filling done (answer_events client task m.history) m
 filling_answer client (Ok task) done m defines filling = filling_task client task done m defines filling
 filling_answer client (Err refuses) done m defines filling = (filling, filling)
 
 -- so it is while a request is answered
 pub filling_request : (request : Request) (done : List Event) (m : Moment) → Filling done m → While Filling done (request_events request m.history) m
 filling_request request done m filling =
-    filling_answer request.client (task_of (catalog_of m.history.schema) (entries_in m.history) request.statement) done m (task_defines request.statement m.history) filling
+    filling_answer request.client (task_of (catalog_of m.history.schema) (entries_in m.history) request.statement) done m (task_defines (catalog_of m.history.schema) (entries_in m.history) request.statement) filling

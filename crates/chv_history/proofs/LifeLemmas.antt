@@ -13,7 +13,7 @@ use Rattle.chv_query.proofs.GrowthLemmas.{slice_get-more}
 use Rattle.chv_history.specs.Acknowledged.{AreApart, IsWhole, SameTokenSameBlock}
 use Rattle.chv_history.specs.Events.{Event, Created, Committed, Replied, Plan, Moment, begins, behind, happen, with_commit, written_in}
 use Rattle.chv_history.specs.Histories.{History, IsLawful, with_accepted}
-use Rattle.chv_history.specs.Lives.{Follow, IsAbsent, IsLife, LifeRun, StandsOnce, StandsOnceAtMost, history_behind, life_events}
+use Rattle.chv_history.specs.Lives.{Follow, GainsFew, IsAbsent, IsLife, LifeRun, StandsOnce, StandsOnceAtMost, history_behind, life_events}
 use Rattle.chv_history.specs.Runs.{request_events, run_events}
 use Rattle.chv_history.specs.Script.{Request, AreFormed, IsFormed}
 use Rattle.chv_history.specs.Spaced.{KeepApart}
@@ -187,9 +187,8 @@ module _ (window : ℕ) (contribution : Contribution) (old more : List Arrival) 
   )
 
 -- so it is over a life
-module _ (history : History) (runs : List LifeRun) (earlier later : List Event) (life : IsLife history runs) (split : life_events runs ≡ earlier ++ later)
-    (place : ℕ) (def : TableDef) (stands : slice_get (tables_of (history_behind history earlier).schema) place ≡ Some def)
-    (few : length ((history_behind history (life_events runs)).arrivals (place + 1)) ≤ length ((history_behind history earlier).arrivals (place + 1)) + def.window + 1) where
+module _ (history : History) (runs : List LifeRun) (earlier later : List Event) (place : ℕ) (def : TableDef) (life : IsLife history runs) (split : life_events runs ≡ earlier ++ later)
+    (gains : GainsFew (history_behind history earlier) (history_behind history (life_events runs)) place def) where
   abbrev old : List Arrival
   old = (history_behind history earlier).arrivals (place + 1)
 
@@ -200,13 +199,13 @@ module _ (history : History) (runs : List LifeRun) (earlier later : List Event) 
   ends =
       subst (Grows place def (history_behind history earlier))
       (ap (λ (m : Moment). m.history) (sym (behind-append earlier later (begins history)) ∙ ap (λ (events : List Event). behind events (begins history)) (sym split)))
-      (grows later (behind earlier (begins history)) place def stands)
+      (grows later (behind earlier (begins history)) place def gains.stands)
 
   pub retried : (contribution : Contribution) → IsAbsent contribution old → StandsOnceAtMost contribution new
   retried contribution absent =
       let apart : KeepApart def.window new = contributions_spaced (history_behind history (life_events runs)) (life_lawful history runs life) place def ends.stands in
       subst (StandsOnceAtMost contribution) (sym ends.are)
-      (once_at_most def.window contribution old ends.more absent (subst (KeepApart def.window) ends.are apart) (subst (λ (l : List Arrival). length l ≤ length old + def.window + 1) ends.are few))
+      (once_at_most def.window contribution old ends.more absent (subst (KeepApart def.window) ends.are apart) (subst (λ (l : List Arrival). length l ≤ length old + def.window + 1) ends.are gains.few))
 
   -- an insert that is acknowledged stands there once
   pub retried_once : AreApart history (life_events runs) → SameTokenSameBlock history (life_events runs) → (plan : Plan) (delivery : Delivery)

@@ -1,8 +1,10 @@
 -- The life of a store: runs, each of which begins with what the one before left.
-use Rattle.std.specs.Prelude.{ℕ, ◌≡◌, List, [], ◌∷◌, ◌++◌}
+use Rattle.std.specs.Prelude.{ℕ, ◌≡◌, ◌≤◌, ◌+◌, List, [], ◌∷◌, ◌++◌, length, Some, slice_get}
 use Rattle.std.specs.List.{All, flat_map}
+use Rattle.chv_catalog.specs.declared.table_def.TableDef.{TableDef}
+use Rattle.chv_query.specs.Accepted.{tables_of}
 use Rattle.chv_query.specs.Arrivals.{Arrival, Contribution}
-use Rattle.chv_history.specs.Events.{Event, Moment, begins, behind}
+use Rattle.chv_history.specs.Events.{Event, begins, behind}
 use Rattle.chv_history.specs.Histories.{History, IsLawful}
 use Rattle.chv_history.specs.Runs.{run_events}
 use Rattle.chv_history.specs.Script.{Request, AreFormed}
@@ -26,11 +28,16 @@ Follow history (run ∷ runs) = (run_events run.requests (begins history) ≡ ru
 abbrev pub life_events : List LifeRun → List Event
 life_events runs = flat_map (λ (run : LifeRun). run.done) runs
 
--- a life begins with a lawful history, and its requests are well formed
+-- a life begins with a lawful history, and its requests are well formed. At each of its moments a life may end
 pub record IsLife (history : History) (runs : List LifeRun) : Type 0 where
   pub lawful : IsLawful history
   pub formed : All (λ (run : LifeRun). AreFormed run.requests) runs
   pub follow : Follow history runs
+
+-- a table stands, and gains no more entries than its window has ids, and one
+pub record GainsFew (before after : History) (place : ℕ) (def : TableDef) : Type 0 where
+  pub stands : slice_get (tables_of before.schema) place ≡ Some def
+  pub few : length (after.arrivals (place + 1)) ≤ length (before.arrivals (place + 1)) + def.window + 1
 
 -- none of some arrivals is of a contribution
 abbrev pub IsAbsent : Contribution → List Arrival → Type 0

@@ -1,8 +1,8 @@
 // What holds of all histories, as laws on the definitions.
-ghost use Rattle.std.specs.Prelude.{◌≡◌, ◌⊎◌, ◌+◌, ◌≤◌, ◌∷◌, ◌++◌, Bool, List, ℕ, Some, length, slice_get};
+ghost use Rattle.std.specs.Prelude.{◌≡◌, ◌⊎◌, ◌+◌, ◌≤◌, ◌∷◌, ◌++◌, Bool, List, ℕ, length};
 ghost use Rattle.std.specs.List.{All, Contains};
 ghost use Rattle.chv_catalog.specs.declared.table_def.TableDef.{TableDef};
-ghost use Rattle.chv_query.specs.Accepted.{IsSchema, tables_of};
+ghost use Rattle.chv_query.specs.Accepted.{IsSchema};
 ghost use Rattle.chv_query.specs.Arrivals.{Contribution};
 ghost use Rattle.chv_query.specs.Plans.{Delivery};
 ghost use Rattle.chv_site.specs.Images.{Image};
@@ -11,7 +11,7 @@ ghost use Rattle.chv_history.specs.Crashes.{IsLeftBy};
 ghost use Rattle.chv_history.specs.Events.{Event, Replied, Plan, Moment, begins, behind};
 ghost use Rattle.chv_history.specs.Histories.{History, IsLawful};
 ghost use Rattle.chv_history.specs.Kept.{Kept, IsKeptOf, Refuses, kept_behind};
-ghost use Rattle.chv_history.specs.Lives.{IsAbsent, IsLife, LifeRun, StandsOnce, StandsOnceAtMost, history_behind, life_events};
+ghost use Rattle.chv_history.specs.Lives.{GainsFew, IsAbsent, IsLife, LifeRun, StandsOnce, StandsOnceAtMost, history_behind, life_events};
 ghost use Rattle.chv_history.specs.Runs.{run_events};
 ghost use Rattle.chv_history.specs.Script.{Request, AreFormed};
 ghost use Rattle.chv_history.specs.Spaced.{AreSpaced, ContributionsAreSpaced};
@@ -53,20 +53,19 @@ pub fn law_spaced()
         → run_events requests (begins history) ≡ done ++ left → ContributionsAreSpaced (behind done (begins history)).history }
 {}
 
-/// Over a life, whose runs may each end early: where a contribution is absent from a table at some moment, and the table has gained
-/// no more entries since than its window has ids, and one, it stands there once at most. Where what goes by different things has
-/// different ids and one token and number is that of one block, what is acknowledged stands whole, and so exactly once there.
+/// Over a life, in which each run may end early: where a contribution is absent from a table at some moment, and the table has
+/// gained no more entries at the end than its window has ids, and one, it stands there once at most. Where what goes by different
+/// things has different ids and one token and number is that of one block, what is acknowledged stands whole, and there once.
 pub fn law_retry()
-    ensures once_at_most { (history : History) (runs : List LifeRun) (earlier later : List Event) → IsLife history runs → life_events runs ≡ earlier ++ later
-        → (place : ℕ) (def : TableDef) → slice_get (tables_of (history_behind history earlier).schema) place ≡ Some def
-        → length ((history_behind history (life_events runs)).arrivals (place + 1)) ≤ length ((history_behind history earlier).arrivals (place + 1)) + def.window + 1
+    ensures once_at_most { (history : History) (runs : List LifeRun) (earlier later : List Event) (place : ℕ) (def : TableDef) → IsLife history runs
+        → life_events runs ≡ earlier ++ later → GainsFew (history_behind history earlier) (history_behind history (life_events runs)) place def
         → (contribution : Contribution) → IsAbsent contribution ((history_behind history earlier).arrivals (place + 1))
         → StandsOnceAtMost contribution ((history_behind history (life_events runs)).arrivals (place + 1)) }
-    ensures whole { (history : History) (runs : List LifeRun) → IsLife history runs → AreApart history (life_events runs) → SameTokenSameBlock history (life_events runs)
+    ensures whole { (history : History) (runs : List LifeRun) → IsLife history runs → AreApart history (life_events runs)
+        → SameTokenSameBlock history (life_events runs)
         → All (IsWhole (history_behind history (life_events runs))) (behind (life_events runs) (begins history)).acknowledged }
-    ensures once { (history : History) (runs : List LifeRun) (earlier later : List Event) → IsLife history runs → life_events runs ≡ earlier ++ later
-        → (place : ℕ) (def : TableDef) → slice_get (tables_of (history_behind history earlier).schema) place ≡ Some def
-        → length ((history_behind history (life_events runs)).arrivals (place + 1)) ≤ length ((history_behind history earlier).arrivals (place + 1)) + def.window + 1
+    ensures once { (history : History) (runs : List LifeRun) (earlier later : List Event) (place : ℕ) (def : TableDef) → IsLife history runs
+        → life_events runs ≡ earlier ++ later → GainsFew (history_behind history earlier) (history_behind history (life_events runs)) place def
         → AreApart history (life_events runs) → SameTokenSameBlock history (life_events runs) → (plan : Plan) (delivery : Delivery)
         → Contains (behind (life_events runs) (begins history)).acknowledged plan → Contains plan delivery → delivery.table ≡ place + 1
         → IsAbsent delivery.entry.contribution ((history_behind history earlier).arrivals (place + 1))
