@@ -15,7 +15,7 @@ use Rattle.chv_history.specs.Events.{Event, Created, Committed, Replied, Plan, M
 use Rattle.chv_history.specs.Histories.{History, IsLawful, with_accepted}
 use Rattle.chv_history.specs.Lives.{Follow, GainsFew, IsAbsent, IsLife, LifeRun, StandsOnce, StandsOnceAtMost, history_behind, life_events}
 use Rattle.chv_history.specs.Runs.{request_events, run_events}
-use Rattle.chv_history.specs.Script.{Request, AreFormed, IsFormed}
+use Rattle.chv_history.specs.Script.{Request, IsFormed}
 use Rattle.chv_history.specs.Spaced.{KeepApart}
 use Rattle.chv_history.proofs.AcknowledgedLemmas.{FillingHeld, holding_none, holding_request}
 use Rattle.chv_history.proofs.ArrivingLemmas.{with_none-other}

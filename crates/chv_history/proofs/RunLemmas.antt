@@ -5,10 +5,8 @@ use Rattle.std.proofs.lemmas.Bool.{and_parts, cases_eq, eq-eqb, ltb-false, ne_eq
 use Rattle.std.proofs.lemmas.List.Elements.{All-cons, All-head, All-nil, All-tail, All-weaker}
 use Rattle.chv_ast.specs.declared.refusal.Refusal.{Refusal}
 use Rattle.chv_ast.specs.declared.statement.Insert.{Insert}
-use Rattle.chv_catalog.specs.Schemas.{kinds_of, no_definitions}
-use Rattle.chv_catalog.specs.declared.table_def.TableDef.{TableDef}
 use Rattle.chv_commit.specs.Replays.{MAX_ENTRIES}
-use Rattle.chv_query.specs.Accepted.{Accepted, IsAccepted, catalog_of, is_built_create, tables_of}
+use Rattle.chv_query.specs.Accepted.{Accepted, IsAccepted, catalog_of, is_built_create}
 use Rattle.chv_query.specs.Plans.{Delivery, planned}
 use Rattle.chv_query.proofs.ArrivalLemmas.{ArrivesIn, planned-arrives}
 use Rattle.chv_history.specs.Events.{Event, Plan, Moment, behind, happen}
