@@ -25,15 +25,15 @@ pub fn law_acknowledged()
         → IsAcknowledged plans (behind left.done first) ⊎ (left.left ≡ Replied line plans refuses ∷ ys) }
 {}
 
-/// At each moment of a run the history holds every insert that the run has acknowledged: each of its deliveries has an entry
-/// with its id.
+/// At each moment of a run over a schema the history holds every insert that the run has acknowledged: each of its deliveries has
+/// an entry with its id.
 pub fn law_held()
     ensures { (requests : List Request) (history : History) (done left : List Event) → IsSchema history.schema → run_events requests (begins history) ≡ done ++ left
         → All (IsHeld (behind done (begins history)).history) (behind done (begins history)).acknowledged }
 {}
 
-/// Every insert that a run has acknowledged stands whole: its entries, where ids name one; its blocks and what they go by,
-/// where what goes by different things has different ids and one token and number is that of one block.
+/// Every insert that a run over a schema has acknowledged stands whole: its entries, where ids name one; its blocks and what they
+/// go by, where what goes by different things has different ids and one token and number is that of one block.
 pub fn law_whole()
     ensures entries { (requests : List Request) (history : History) (done left : List Event) → IsSchema history.schema → run_events requests (begins history) ≡ done ++ left
         → IdsNameOne (behind done (begins history))
@@ -72,7 +72,7 @@ pub fn law_retry()
         → StandsOnce delivery.entry ((history_behind history (life_events runs)).arrivals (place + 1)) }
 {}
 
-/// Where what is held is that of a history, it stays so in a run, which refuses a statement as what is held says.
+/// Where what is held is that of a history over a schema, it stays so in a run, which refuses a statement as what is held says.
 pub fn law_kept()
     ensures { (requests : List Request) (kept : Kept) (history : History) → IsSchema history.schema → IsKeptOf kept history
         → IsKeptOf (kept_behind requests kept) (behind (run_events requests (begins history)) (begins history)).history
