@@ -2,7 +2,9 @@
 -- values as ever: states may be asked to be spelled whole, or to be short.
 use Rattle.std.specs.Prelude.{ℕ, pos, zero, suc, ◌≡◌, ◌↔◌, ◌^◌, nat_lt, length, Bool, true, false, cond, if◌then◌else◌, List, [], ◌∷◌, slice_get, map, Option, None, Some, IfSome, IfOk, Result, Ok, Err}
 use Rattle.std.specs.Option.{option_map, option_and_then}
-use Rattle.std.proofs.Common.{ap, refl, sym, subst, ◌∙◌}
+use Rattle.std.specs.List.{All}
+use Rattle.std.proofs.Common.{ap, refl, sym, subst, ◌∙◌, ◌⊎◌, inl, inr}
+use Rattle.std.proofs.lemmas.List.Elements.{All-cons, All-nil}
 use Rattle.std.proofs.lemmas.Bool.{ltb-true, ltb-false}
 use Rattle.std.proofs.lemmas.Option.{slice_get-map}
 use Rattle.chv_ast.specs.declared.expr.Args.{Args, roll-Args, map-Args}
@@ -11,7 +13,7 @@ use Rattle.chv_ast.specs.declared.expr.Args.TheOpen.{Expr-F, Args-F}
 use Rattle.chv_ast.specs.declared.expr.Args.TheVariants as args
 use Rattle.chv_ast.specs.declared.expr.BinaryOp.{BinaryOp}
 use Rattle.chv_ast.specs.declared.expr.BinaryOp.TheVariants as binary
-use Rattle.chv_ast.specs.declared.expr.Expr.{Expr, roll-Expr, map-Expr}
+use Rattle.chv_ast.specs.declared.expr.Expr.{Expr, map-Expr, out-Expr, roll-Expr, roll-out-Expr}
 use Rattle.chv_ast.specs.declared.expr.Expr.TheVariants as expr
 use Rattle.chv_ast.specs.declared.expr.Literal.{Literal}
 use Rattle.chv_ast.specs.declared.expr.Literal.TheVariants as literal
@@ -22,6 +24,7 @@ use Rattle.chv_types.specs.Fits.{Fits, IsOfScalar}
 use Rattle.chv_types.specs.Names.{place_of}
 use Rattle.chv_types.specs.Steps.{and_then, or_refuse}
 use Rattle.chv_types.specs.Texts.{digits_number, small}
+use Rattle.chv_types.specs.Values.{IsPlain}
 use Rattle.chv_types.specs.declared.kind.Kind.{Kind}
 use Rattle.chv_types.specs.declared.kind.Kind.TheVariants as kind
 use Rattle.chv_types.specs.declared.kind.Scalar.{Scalar}
@@ -258,3 +261,113 @@ module _ (P : Kind → Value → Type 0) (plain : (of : Scalar) (value : Value) 
     -- the same of a term that is there
     pub IsTyped-term : (e : Expr) (term : Term) → term_of columns e ≡ Ok term → IsTyped P (kinds_of columns) term
     IsTyped-term e term is = subst (λ r. IfOk r (IsTyped P (kinds_of columns))) is (term_of-typed e)
+
+-- a term is of plain values, or it is a column
+abbrev pub IsForm : List Kind → Term → Type 0
+IsForm kinds term =
+    IsPlain term.kind ⊎ ((place : ℕ) × (slice_get kinds place ≡ Some term.kind) × ((row : List Value) → term.value row ≡ Some (value_at place row)))
+
+-- whatever a step gives
+whatever : {A B : Type 0} (Q : B → Type 0) (r : Result A Refusal) (rest : A → Result B Refusal) → ((a : A) → IfOk (rest a) Q) → IfOk (and_then r rest) Q
+whatever Q (Ok a) rest f = f a
+whatever Q (Err refusal) rest f = tt
+
+module _ (kinds : List Kind) where
+  small-form : (number : Option ℕ) → IfSome (option_map (λ n. constant scalar.UInt64 (Whole (pos n))) number) (IsForm kinds)
+  small-form number = from_each (IsForm kinds) _ number (λ n e. inl tt)
+
+  literal-form : (value : Literal) → IfOk (literal_term value) (IsForm kinds)
+  literal-form (literal.Whole false digits) = refused (IsForm kinds) BadLiteral _ (small-form (option_and_then small (digits_number digits)))
+  literal-form (literal.Whole true digits) = tt
+  literal-form (literal.Quoted text) = by (nat_lt 1048576 (length text))
+    where
+      by : (long : Bool) → IfOk (if long then Err BadLiteral else Ok (constant scalar.Text (Text text))) (IsForm kinds)
+      by true = tt
+      by false = inl tt
+  literal-form (literal.Truth truth) = inl tt
+
+  binary-form : (op : BinaryOp) (a b : Term) → IfSome (binary_term op a b) (IsForm kinds)
+  binary-form op a b = from_each (IsForm kinds) _ (in_classes (binary_kind op) a b) (λ of e. inl tt)
+
+  length-form : (a : Term) (c : Option Class) → IfSome (option_and_then (length_of a) c) (IsForm kinds)
+  length-form a None = tt
+  length-form a (Some class.Text) = inl tt
+  length-form a (Some class.Truth) = tt
+  length-form a (Some (class.Number signed)) = tt
+
+  widened-form : (signed : Bool) (a : Term) (c : Option Class) → IfSome (option_and_then (widened_of signed a) c) (IsForm kinds)
+  widened-form signed a None = tt
+  widened-form signed a (Some (class.Number other)) = inl tt
+  widened-form signed a (Some class.Truth) = tt
+  widened-form signed a (Some class.Text) = tt
+
+  if-form : (test a b : Term) (c : Option Class) → IfSome (option_and_then (chosen_of test a b) c) (IsForm kinds)
+  if-form test a b None = tt
+  if-form test a b (Some class.Truth) = from_each (IsForm kinds) _ (in_classes joined a b) (λ of e. inl tt)
+  if-form test a b (Some class.Text) = tt
+  if-form test a b (Some (class.Number signed)) = tt
+
+  applied-form : (function : Function) (terms : List Term) → IfSome (applied function terms) (IsForm kinds)
+  applied-form Modulo (a ∷ b ∷ []) = binary-form binary.Modulo a b
+  applied-form IntDiv (a ∷ b ∷ []) = from_each (IsForm kinds) _ (in_classes numbers a b) (λ signed e. inl tt)
+  applied-form Length (a ∷ []) = length-form a (class_of a.kind)
+  applied-form If (test ∷ a ∷ b ∷ []) = if-form test a b (class_of test.kind)
+  applied-form ToUInt64 (a ∷ []) = widened-form false a (class_of a.kind)
+  applied-form ToInt64 (a ∷ []) = widened-form true a (class_of a.kind)
+  applied-form function other = tt
+
+-- a column is one
+pub column_at-form : (columns : List Column) (place : ℕ) (column : Column) → slice_get columns place ≡ Some column → IsForm (kinds_of columns) (column_at place column)
+column_at-form columns place column e =
+    let kind_of = λ (column : Column). column.kind in
+    inr (place, slice_get-map kind_of columns place ∙ ap (option_map kind_of) e, λ row. refl)
+
+module _ (columns : List Column) where
+  found-form : (place : ℕ) (found : Option Column) → slice_get columns place ≡ found → IfSome (option_map (column_at place) found) (IsForm (kinds_of columns))
+  found-form place None e = tt
+  found-form place (Some column) e = column_at-form columns place column e
+
+  named-form : (place : Option ℕ) → IfSome (option_and_then (λ place. option_map (column_at place) (slice_get columns place)) place) (IsForm (kinds_of columns))
+  named-form None = tt
+  named-form (Some place) = found-form place (slice_get columns place) refl
+
+  abbrev HasForm : Expr → Type 0
+  HasForm e = IfOk (term_of columns e) (IsForm (kinds_of columns))
+
+  form_layer : (layer : Expr-F Args Expr) → HasForm (roll-Expr layer)
+  form_layer (Expr-F.Column name) =
+      subst HasForm (sym (expr.rolls-Column name)) (rw (term-Column columns name)
+      (refused (IsForm (kinds_of columns)) UnknownColumn _ (named-form (place_of name (map (λ column. column.name) columns)))))
+  form_layer (Expr-F.Literal value) = subst HasForm (sym (expr.rolls-Literal value)) (rw (term-Literal columns value) (literal-form (kinds_of columns) value))
+  form_layer (Expr-F.Unary op arg) =
+      let Q = IsForm (kinds_of columns) in
+      subst HasForm (sym (expr.rolls-Unary op arg)) (rw (term-Unary columns op arg)
+      (whatever Q (term_of columns arg) _ (λ a. refused Q TypeMismatch (unary_term op a) (from_each Q _ (option_and_then (unary_kind op) (class_of a.kind)) (λ of e. inl tt)))))
+  form_layer (Expr-F.Binary op left right) =
+      let Q = IsForm (kinds_of columns) in
+      subst HasForm (sym (expr.rolls-Binary op left right)) (rw (term-Binary columns op left right)
+      (whatever Q (term_of columns left) _ (λ a. whatever Q (term_of columns right) _ (λ b. refused Q TypeMismatch (binary_term op a b) (binary-form (kinds_of columns) op a b)))))
+  form_layer (Expr-F.Call name list) =
+      let Q = IsForm (kinds_of columns) in
+      subst HasForm (sym (expr.rolls-Call name list)) (rw (term-Call columns name list)
+      (whatever Q (terms_of columns list) _ (λ terms. whatever Q (or_refuse (no_function name) (function_named name)) _
+      (λ function. refused Q TypeMismatch (applied function terms) (applied-form (kinds_of columns) function terms)))))
+
+  -- what an expression means is of plain values, or it is a column
+  pub term_of-form : (e : Expr) → IfOk (term_of columns e) (IsForm (kinds_of columns))
+  term_of-form e = subst HasForm (roll-out-Expr e) (form_layer (out-Expr e))
+
+-- what holds of what each expression means holds of what arguments mean
+module _ (columns : List Column) (Q : Term → Type 0) (each : (e : Expr) → IfOk (term_of columns e) Q) where
+  abbrev EachOf : Args → Type 0
+  EachOf list = IfOk (terms_of columns list) (All Q)
+
+  each_layer : (layer : Args-F ((list : Args) × EachOf list) ((e : Expr) × Unit {0}))
+      → EachOf (roll-Args (map-Args ((list : Args) × EachOf list) ((e : Expr) × Unit {0}) Args Expr (λ list. list.0) (λ e. e.0) layer))
+  each_layer Args-F.End = subst EachOf (sym args.rolls-End) (rw (terms-End columns) (All-nil Q))
+  each_layer (Args-F.More first list) =
+      subst EachOf (sym (args.rolls-More first.0 list.0)) (rw (terms-More columns first.0 list.0)
+      (stepped Q (All Q) (term_of columns first.0) _ (each first.0) (λ a p. stepped (All Q) (All Q) (terms_of columns list.0) _ list.1 (λ terms q. All-cons Q a terms p q))))
+
+  pub terms_of-each : (list : Args) → IfOk (terms_of columns list) (All Q)
+  terms_of-each = ind-Args EachOf (λ e. Unit {0}) (λ x y is. subst (λ z. EachOf (roll-Args z)) is (each_layer y)) (λ x y is. tt)
