@@ -1,9 +1,11 @@
 pub mod AcceptedLemmas
+pub mod ArrivalLemmas
 pub mod BoundLemmas
 pub mod CallLemmas
 pub mod CellLemmas
 pub mod DefinitionLemmas
 pub mod FeedLemmas
+pub mod GrowthLemmas
 pub mod JoinLemmas
 pub mod KeyLemmas
 pub mod LiteralLemmas
@@ -18,5 +20,5 @@ pub mod ShownLemmas
 pub mod SortLemmas
 pub mod TableLemmas
 pub mod TakesLemmas
-pub mod WholeRowLemmas
 pub mod ViewLemmas
+pub mod WholeRowLemmas
