@@ -5,6 +5,7 @@ pub mod CallLemmas
 pub mod CellLemmas
 pub mod DefinitionLemmas
 pub mod FeedLemmas
+pub mod GroupFits
 pub mod GrowthLemmas
 pub mod JoinLemmas
 pub mod KeyLemmas
@@ -15,7 +16,9 @@ pub mod OutputLemmas
 pub mod QueryLemmas
 pub mod ResultLemmas
 pub mod RunLemmas
+pub mod SetSums
 pub mod ShapeLemmas
+pub mod ShapeTerms
 pub mod ShownLemmas
 pub mod SortLemmas
 pub mod TableLemmas
