@@ -252,20 +252,16 @@ sum_is scalar.UInt32 (SumI n) some fits = absurd (cc fits.0)
 sum_is scalar.UInt64 (SumU n) some fits = fits-small n fits.1
 sum_is scalar.UInt64 (SumI n) some fits = absurd (cc fits.0)
 sum_is scalar.Int8 (SumU n) some fits = absurd (cc fits.0)
-sum_is scalar.Int8 (SumI n) some fits = fits.1
+sum_is scalar.Int8 (SumI n) some fits = (fits.1, fits.2)
 sum_is scalar.Int16 (SumU n) some fits = absurd (cc fits.0)
-sum_is scalar.Int16 (SumI n) some fits = fits.1
+sum_is scalar.Int16 (SumI n) some fits = (fits.1, fits.2)
 sum_is scalar.Int32 (SumU n) some fits = absurd (cc fits.0)
-sum_is scalar.Int32 (SumI n) some fits = fits.1
+sum_is scalar.Int32 (SumI n) some fits = (fits.1, fits.2)
 sum_is scalar.Int64 (SumU n) some fits = absurd (cc fits.0)
-sum_is scalar.Int64 (SumI n) some fits = fits.1
+sum_is scalar.Int64 (SumI n) some fits = (fits.1, fits.2)
 sum_is scalar.Bool state some fits = absurd (cc some)
 sum_is scalar.Text state some fits = absurd (cc some)
 sum_is arg state some fits = absurd fits
-
-found_is : (arg : Scalar) (found : Option Value) → IfSome found (IsOfScalar arg) → IsOfScalar arg (unwrap_or found (plain_default arg))
-found_is arg None fits = default_kind (kind.Plain arg)
-found_is arg (Some value) fits = fits
 
 value_is : (function : AggName) (arg : Scalar) (state : AnyAgg) → is_some (kind_over function arg) ≡ true → FitsState function arg state
     → IsOfScalar (unwrap_or (kind_over function arg) arg) (value_of arg state)
@@ -279,7 +275,7 @@ value_is agg.Min arg state some fits = absurd fits
 value_is agg.Max arg (Greatest None) some fits = default_kind (kind.Plain arg)
 value_is agg.Max arg (Greatest (Some value)) some fits = fits
 value_is agg.Max arg state some fits = absurd fits
-value_is agg.UniqExact arg (Uniq values) some fits = fits-small (length values) fits.1.1
+value_is agg.UniqExact arg (Uniq values) some fits = fits-small (length values) fits.2
 value_is agg.UniqExact arg state some fits = absurd fits
 
 state_value-is : (call : AggCall) (state : AnyAgg) → is_some (kind_over call.agg call.arg) ≡ true → FitsState call.agg call.arg state → IsOf (call_kind call) (state_value call state)
