@@ -97,7 +97,7 @@ AllOf-append [] more (value ∷ row) rest all behind = absurd all
 AllOf-append (of ∷ kinds) more [] rest all behind = absurd all
 AllOf-append (of ∷ kinds) more (value ∷ row) rest all behind = (all.0, AllOf-append kinds more row rest all.1 behind)
 
-AllOf-take : (keys args : List Term) (values : List Value) → AllOf IsOf (term_kinds (keys ++ args)) values → AllOf IsOf (term_kinds keys) (take (length keys) values)
+pub AllOf-take : (keys args : List Term) (values : List Value) → AllOf IsOf (term_kinds (keys ++ args)) values → AllOf IsOf (term_kinds keys) (take (length keys) values)
 AllOf-take [] args values all = tt
 AllOf-take (key ∷ keys) args [] all = absurd all
 AllOf-take (key ∷ keys) args (value ∷ values) all = (all.0, AllOf-take keys args values all.1)
@@ -108,16 +108,16 @@ AllOf-length [] (value ∷ row) all = absurd all
 AllOf-length (key ∷ keys) [] all = absurd all
 AllOf-length (key ∷ keys) (value ∷ row) all = ap suc (AllOf-length keys row all.1)
 
-slice_get-mapped : {A B : Type 0} (f : A → B) (xs : List A) (place : ℕ) (y : B) → slice_get (map f xs) place ≡ Some y → (x : A) × (slice_get xs place ≡ Some x) × (f x ≡ y)
+pub slice_get-mapped : {A B : Type 0} (f : A → B) (xs : List A) (place : ℕ) (y : B) → slice_get (map f xs) place ≡ Some y → (x : A) × (slice_get xs place ≡ Some x) × (f x ≡ y)
 slice_get-mapped f [] place y is = absurd (cc is)
 slice_get-mapped f (x ∷ xs) zero y is = (x, refl, cc is)
 slice_get-mapped f (x ∷ xs) (suc place) y is = slice_get-mapped f xs place y is
 
-set_in-plain : (of : Kind) (value : Value) → IsPlain of → set_in of value ≡ 0
+pub set_in-plain : (of : Kind) (value : Value) → IsPlain of → set_in of value ≡ 0
 set_in-plain (kind.Plain plain) value is = refl
 set_in-plain (kind.State function arg) value is = absurd is
 
-plain_apt : (of : Kind) → IsPlain of → IsApt of
+pub plain_apt : (of : Kind) → IsPlain of → IsApt of
 plain_apt (kind.Plain plain) is = tt
 plain_apt (kind.State function arg) is = absurd is
 
@@ -125,11 +125,11 @@ not_state : (of : Kind) → is_state of ≡ false → IsPlain of
 not_state (kind.Plain plain) is = tt
 not_state (kind.State function arg) is = absurd (cc is)
 
-some_same : {A : Type 0} {a b : A} → Some a ≡ Some b → a ≡ b
+pub some_same : {A : Type 0} {a b : A} → Some a ≡ Some b → a ≡ b
 some_same is = cc is
 
 -- what is made of a row: nothing, or the values of the terms
-abbrev AllGive : List Value → List Term → List Value → Type 0
+abbrev pub AllGive : List Value → List Term → List Value → Type 0
 AllGive row [] [] = Unit {0}
 AllGive row [] (value ∷ values) = ⊥
 AllGive row (term ∷ terms) [] = ⊥
@@ -165,7 +165,7 @@ outcome-made : (condition : Option Term) (terms : List Term) (row : List Value) 
 unfolding outcome
 outcome-made condition terms row = made_of_row terms row (passes condition row) (output_row terms row) refl
 
-value_at-gives : (row : List Value) (terms : List Term) (values : List Value) (place : ℕ) (term : Term) → AllGive row terms values → slice_get terms place ≡ Some term
+pub value_at-gives : (row : List Value) (terms : List Term) (values : List Value) (place : ℕ) (term : Term) → AllGive row terms values → slice_get terms place ≡ Some term
     → term.value row ≡ Some (value_at place values)
 value_at-gives row [] values place term gives at = absurd (cc at)
 value_at-gives row (first ∷ terms) [] place term gives at = absurd gives
@@ -174,14 +174,14 @@ value_at-gives row (first ∷ terms) (value ∷ values) zero term gives at =
     subst (λ (t : Term). t.value row ≡ Some value) same gives.0
 value_at-gives row (first ∷ terms) (value ∷ values) (suc place) term gives at = value_at-gives row terms values place term gives.1 at
 
-AllGive-drop : (n : ℕ) (row : List Value) (terms : List Term) (values : List Value) → AllGive row terms values → AllGive row (drop n terms) (drop n values)
+pub AllGive-drop : (n : ℕ) (row : List Value) (terms : List Term) (values : List Value) → AllGive row terms values → AllGive row (drop n terms) (drop n values)
 AllGive-drop zero row terms values gives = gives
 AllGive-drop (suc n) row [] [] gives = tt
 AllGive-drop (suc n) row [] (value ∷ values) gives = absurd gives
 AllGive-drop (suc n) row (term ∷ terms) [] gives = absurd gives
 AllGive-drop (suc n) row (term ∷ terms) (value ∷ values) gives = AllGive-drop n row terms values gives.1
 
-AllGive-typed : (kinds : List Kind) (row : List Value) (terms : List Term) (values : List Value) → All (IsTyped IsOf kinds) terms → AllOf IsOf kinds row → AllGive row terms values
+pub AllGive-typed : (kinds : List Kind) (row : List Value) (terms : List Term) (values : List Value) → All (IsTyped IsOf kinds) terms → AllOf IsOf kinds row → AllGive row terms values
     → AllOf IsOf (term_kinds terms) values
 AllGive-typed kinds row [] [] typed are gives = tt
 AllGive-typed kinds row [] (value ∷ values) typed are gives = absurd gives
@@ -193,7 +193,7 @@ AllGive-typed kinds row (term ∷ terms) (value ∷ values) typed are gives = (
 
 module _ (condition : Option Term) (terms : List Term) where
   -- what is made of rows
-  abbrev made : List (List Value) → List (List Value)
+  abbrev pub made : List (List Value) → List (List Value)
   made rows = made_of.results (outcome condition terms) rows
 
   longer : (row : List Value) (one rest : List (List Value)) → IsMade terms row one → length (one ++ rest) ≤ suc (length rest)
@@ -201,7 +201,7 @@ module _ (condition : Option Term) (terms : List Term) where
   longer row (values ∷ []) rest is = omega arith
   longer row (values ∷ (more ∷ rows)) rest is = absurd is
 
-  made-length : (rows : List (List Value)) → length (made rows) ≤ length rows
+  pub made-length : (rows : List (List Value)) → length (made rows) ≤ length rows
   made-length [] = omega arith
   made-length (row ∷ rows) = omega (arith, longer row (unwrap_or (outcome condition terms row) []) (made rows) (outcome-made condition terms row), made-length rows)
 
@@ -211,7 +211,7 @@ module _ (condition : Option Term) (terms : List Term) where
   all_more P row f (values ∷ []) rest is all = All-cons P values rest (f values is) all
   all_more P row f (values ∷ (more ∷ rows)) rest is all = absurd is
 
-  made-all : (R P : List Value → Type 0) → ((row values : List Value) → R row → AllGive row terms values → P values) → (rows : List (List Value)) → All R rows → All P (made rows)
+  pub made-all : (R P : List Value → Type 0) → ((row values : List Value) → R row → AllGive row terms values → P values) → (rows : List (List Value)) → All R rows → All P (made rows)
   made-all R P f [] all = All-nil P
   made-all R P f (row ∷ rows) all =
       all_more P row (λ values gives. f row values (All-head R row rows all) gives) (unwrap_or (outcome condition terms row) []) (made rows) (outcome-made condition terms row)
@@ -229,7 +229,7 @@ module _ (condition : Option Term) (terms : List Term) where
       omega (arith, total_more f (g row) row (λ values gives. less row values gives) (unwrap_or (outcome condition terms row) []) (made rows) (outcome-made condition terms row), made-total f g less rows)
 
   -- the states of a term have no larger sets than those of a column
-  state-total : (kinds : List Kind) (n place : ℕ) (term : Term) (most : ℕ) → slice_get (drop n terms) place ≡ Some term → IsForm kinds term → (rows : List (List Value)) → SetsWithin most kinds rows
+  pub state-total : (kinds : List Kind) (n place : ℕ) (term : Term) (most : ℕ) → slice_get (drop n terms) place ≡ Some term → IsForm kinds term → (rows : List (List Value)) → SetsWithin most kinds rows
       → total (λ values. set_in term.kind (value_at place (drop n values))) (made rows) ≤ most
   state-total kinds n place term most at (inl plain) rows within =
       omega (arith, total-none (λ (values : List Value). set_in term.kind (value_at place (drop n values))) (λ values. set_in-plain term.kind (value_at place (drop n values)) plain) (made rows))
@@ -297,15 +297,15 @@ state_value-size call state fits = by (gives_state call.form)
 
 -- calls take the arguments at their places, and have a result; the states have few values together
 module _ (most : ℕ) (few : most < 2 ^ 64) where
-  abbrev size_at : AggCall → ℕ → Keyed → ℕ
+  abbrev pub size_at : AggCall → ℕ → Keyed → ℕ
   size_at call place input = input_size call (argument_at place input)
 
-  record IsFedAt (call : AggCall) (place : ℕ) (inputs : List Keyed) : Type 0 where
-    takes : All (λ (input : Keyed). TakesArgument call (argument_at place input)) inputs
-    size : total (size_at call place) inputs ≤ most
-    some : is_some (kind_over call.agg call.arg) ≡ true
+  pub record IsFedAt (call : AggCall) (place : ℕ) (inputs : List Keyed) : Type 0 where
+    pub takes : All (λ (input : Keyed). TakesArgument call (argument_at place input)) inputs
+    pub size : total (size_at call place) inputs ≤ most
+    pub some : is_some (kind_over call.agg call.arg) ≡ true
 
-  abbrev AllFedAt : ℕ → List AggCall → List Keyed → Type 0
+  abbrev pub AllFedAt : ℕ → List AggCall → List Keyed → Type 0
   AllFedAt place [] inputs = Unit {0}
   AllFedAt place (call ∷ calls) inputs = IsFedAt call place inputs × AllFedAt (place + 1) calls inputs
 
@@ -444,10 +444,10 @@ module _ (most : ℕ) (few : most < 2 ^ 64) where
   arranged-at kinds (place ∷ places) (column ∷ columns) (suc q) of placed at = arranged-at kinds places columns q of placed.1 at
 
   -- rows of kinds, whose states have few values
-  abbrev IsWell : List Kind → List (List Value) → Type 0
+  abbrev pub IsWell : List Kind → List (List Value) → Type 0
   IsWell kinds rows = All (AllOf IsOf kinds) rows × SetsWithin most kinds rows
 
-  arranged-well : (kinds : List Kind) (places : List ℕ) (columns : List Column) (rows : List (List Value)) → AllPlaced kinds places columns → IsWell kinds rows
+  pub arranged-well : (kinds : List Kind) (places : List ℕ) (columns : List Column) (rows : List (List Value)) → AllPlaced kinds places columns → IsWell kinds rows
       → IsWell (column_kinds columns) (map (arranged places) rows)
   arranged-well kinds places columns rows placed well = (
     All-map (AllOf IsOf (column_kinds columns)) (arranged places) rows
@@ -477,10 +477,6 @@ module _ (most : ℕ) (few : most < 2 ^ 64) where
   empty [] h = refl
   empty (x ∷ xs) h = absurd (cc h)
 
-  length-mapped : {A B : Type 0} (f : A → B) (xs : List A) → length (map f xs) ≡ length xs
-  length-mapped f [] = refl
-  length-mapped f (x ∷ xs) = ap suc (length-mapped f xs)
-
   module _ (keys : List Term) (calls : List AggCall) (inputs : List Keyed) (always : Bool) (plain : All (λ (term : Term). is_state term.kind ≡ false) keys) (fed : AllFedAt 0 calls inputs)
       (of : All (AllOf IsOf (term_kinds keys)) (map (λ (input : Keyed). input.key) inputs)) (none : always ≡ true → keys ≡ []) where
     abbrev all_keys : List (List Value)
@@ -500,15 +496,28 @@ module _ (most : ℕ) (few : most < 2 ^ 64) where
         let up = members-Rises row_cmp row_cmp_total row_cmp-IsAntisymmetric (map (λ (input : Keyed). input.key) inputs) in
         (rows-are keys calls inputs plain fed all_keys each up, rows-within keys calls inputs plain fed all_keys each up)
 
-    grouped-well : IsWell (term_kinds keys ++ map call_kind calls) (grouped calls inputs always)
+    pub grouped-well : IsWell (term_kinds keys ++ map call_kind calls) (grouped calls inputs always)
     unfolding grouped
     grouped-well = either (always && is_empty inputs) refl
 
-    count : (one : Bool) (n : ℕ) → 1 ≤ n → length inputs ≤ n → length (if one then row_for calls [] [] ∷ [] else map (row_for calls inputs) all_keys) ≤ n
-    count true n some short = omega (arith, some)
-    count false n some short =
-        omega (arith, short, length-mapped (row_for calls inputs) all_keys, members-length row_cmp (map (λ (input : Keyed). input.key) inputs), length-mapped (λ (input : Keyed). input.key) inputs)
+-- there are no more groups than inputs, but for the one that is always there
+module _ (calls : List AggCall) (inputs : List Keyed) where
+  length-mapped : {A B : Type 0} (f : A → B) (xs : List A) → length (map f xs) ≡ length xs
+  length-mapped f [] = refl
+  length-mapped f (x ∷ xs) = ap suc (length-mapped f xs)
 
-    grouped-length : (n : ℕ) → 1 ≤ n → length inputs ≤ n → length (grouped calls inputs always) ≤ n
-    unfolding grouped
-    grouped-length n some short = count (always && is_empty inputs) n some short
+  count : (one : Bool) (n : ℕ) → 1 ≤ n → length inputs ≤ n
+      → length (if one then row_for calls [] [] ∷ [] else map (row_for calls inputs) (members row_cmp (map (λ (input : Keyed). input.key) inputs))) ≤ n
+  count true n some short = omega (arith, some)
+  count false n some short =
+      omega (
+        arith,
+        short,
+        length-mapped (row_for calls inputs) (members row_cmp (map (λ (input : Keyed). input.key) inputs)),
+        members-length row_cmp (map (λ (input : Keyed). input.key) inputs),
+        length-mapped (λ (input : Keyed). input.key) inputs,
+      )
+
+  pub grouped-length : (always : Bool) (n : ℕ) → 1 ≤ n → length inputs ≤ n → length (grouped calls inputs always) ≤ n
+  unfolding grouped
+  grouped-length always n some short = count (always && is_empty inputs) n some short

@@ -14,6 +14,7 @@ pub mod LiteralRowLemmas
 pub mod NameLemmas
 pub mod OutputLemmas
 pub mod QueryLemmas
+pub mod QueryFits
 pub mod ResultLemmas
 pub mod RunLemmas
 pub mod SetSums
