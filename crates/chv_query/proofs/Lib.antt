@@ -24,5 +24,6 @@ pub mod ShownLemmas
 pub mod SortLemmas
 pub mod TableLemmas
 pub mod TakesLemmas
+pub mod ViewFits
 pub mod ViewLemmas
 pub mod WholeRowLemmas

@@ -194,7 +194,7 @@ result_of-length query rows n some short = shaped-length query.filter query.term
 pub result_of-most : (query : Asked) (rows : List (List Value)) → length (result_of query rows) ≤ max 1 (length rows)
 result_of-most query rows = result_of-length query rows (max 1 (length rows)) (omega arith) (omega arith)
 
-plain_same : (of : Scalar) (value : Value) → IsOf (kind.Plain of) value ↔ IsOfScalar of value
+pub plain_same : (of : Scalar) (value : Value) → IsOf (kind.Plain of) value ↔ IsOfScalar of value
 plain_same of value = ((λ h. h), (λ h. h))
 
 -- what is asked
