@@ -1,9 +1,11 @@
 pub mod AcceptedLemmas
+pub mod AptLemmas
 pub mod ArrivalLemmas
 pub mod BoundLemmas
 pub mod CallLemmas
 pub mod CellLemmas
 pub mod DefinitionLemmas
+pub mod EntryLemmas
 pub mod FeedLemmas
 pub mod GroupFits
 pub mod GrowthLemmas
@@ -13,8 +15,8 @@ pub mod LiteralLemmas
 pub mod LiteralRowLemmas
 pub mod NameLemmas
 pub mod OutputLemmas
-pub mod QueryLemmas
 pub mod QueryFits
+pub mod QueryLemmas
 pub mod ResultLemmas
 pub mod RunLemmas
 pub mod SetSums
