@@ -1,5 +1,5 @@
 -- The states of tables that are defined are of functions that have a result over their values.
-use Rattle.std.proofs.Common.{◌≡◌, ℕ, Bool, true, false, if◌then◌else◌, List, [], ◌∷◌, ◌++◌, map, Option, None, Some, is_some, Ok, Err, refl, sym, subst}
+use Rattle.std.proofs.Common.{◌≡◌, ℕ, Bool, true, false, if◌then◌else◌, List, [], ◌∷◌, Option, None, Some, is_some, Ok, Err, refl, sym, subst}
 use Rattle.std.proofs.lemmas.List.Elements.{All-append, All-cons, All-nil}
 use Rattle.std.specs.List.{All}
 use Rattle.chv_ast.specs.declared.refusal.Refusal.TheVariants.{TypeMismatch, UnknownFunction}
@@ -26,7 +26,6 @@ use Rattle.chv_types.specs.declared.aggregate.AggName.TheVariants as agg
 use Rattle.chv_types.specs.declared.kind.Kind.{Kind}
 use Rattle.chv_types.specs.declared.kind.Kind.TheVariants as kind
 use Rattle.chv_types.specs.declared.kind.Scalar.{Scalar}
-use Rattle.chv_types.specs.declared.kind.Scalar.TheVariants as scalar
 use Rattle.chv_types.specs.declared.table.Column.{Column}
 
 over_apt : (function : AggName) (arg : Scalar) (of : Kind) → state_over function arg ≡ Ok of → IsApt of

@@ -1,26 +1,22 @@
 -- The entry of an arrival is one of its table.
-use Rattle.std.proofs.Common.{◌≡◌, ◌∙◌, ◌≤◌, ◌-◌, ◌^◌, ℕ, Bool, false, not, List, [], ◌∷◌, length, map, Option, None, Some, Ok, slice_get, refl, sym, ap, ap₂, subst, arith}
-use Rattle.std.specs.List.{All, list_any}
-use Rattle.chv_ast.specs.declared.statement.Select.{Select}
+use Rattle.std.proofs.Common.{◌≡◌, ◌∙◌, ◌≤◌, ◌-◌, ◌^◌, ℕ, List, [], ◌∷◌, length, Some, slice_get, refl, sym, ap, subst, arith}
+use Rattle.std.specs.List.{All}
 use Rattle.chv_block.specs.Spellings.{AllAreOf}
 use Rattle.chv_catalog.specs.Paths.{IsPath, end_of, links_of, target_of}
 use Rattle.chv_catalog.specs.Schemas.{Catalog, kinds_of}
 use Rattle.chv_catalog.specs.declared.link.Link.{Link}
 use Rattle.chv_catalog.specs.declared.table_def.TableDef.{TableDef}
 use Rattle.chv_part.proofs.BookRowLemmas.{IsEntry-entry_of}
-use Rattle.chv_part.specs.Books.{Entry, IsEntry, MAX_ROWS, TableForm, normal_rows}
+use Rattle.chv_part.specs.Books.{IsEntry, MAX_ROWS, TableForm, normal_rows}
 use Rattle.chv_part.specs.Forms.{form_of}
-use Rattle.chv_types.specs.declared.table.Column.{Column}
 use Rattle.chv_types.specs.declared.value.Value.{Value}
 use Rattle.chv_query.proofs.AptLemmas.{IsAptTable, schema-apt}
 use Rattle.chv_query.proofs.GroupFits.{SetsWithin}
 use Rattle.chv_query.proofs.GrowthLemmas.{All-at, IsViewIn, linked, schema-views}
 use Rattle.chv_query.proofs.ViewFits.{SetsWithin-small, viewed-fits}
 use Rattle.chv_query.specs.Accepted.{Accepted, IsSchema, catalog_of}
-use Rattle.chv_query.specs.Arrivals.{Arrival, IsArrival, arrival_in, end_at, entry_in}
-use Rattle.chv_query.specs.Derived.{columns_at, def_at, derived, form_at, form_in, through, viewed}
-use Rattle.chv_query.specs.Queries.{Asked, asked_of}
-use Rattle.chv_query.specs.Views.{fills}
+use Rattle.chv_query.specs.Arrivals.{Arrival, IsArrival, end_at, entry_in}
+use Rattle.chv_query.specs.Derived.{def_at, derived, form_at, form_in, through, viewed}
 
 -- rows of the columns of a table, as many as a block has at most, with no larger sets in states than a block brings
 pub record AreRowsOf (def : TableDef) (rows : List (List Value)) : Type 0 where
@@ -42,8 +38,7 @@ module _ (catalog : Catalog) (views : All (IsViewIn catalog) catalog.views) (apt
       let sound : IsAptTable of.source = All-at IsAptTable catalog.tables (there.def.source - 1) of.source apt of.reads in
       let short : length rows ≤ 2 ^ 40 = omega (arith, here.most) in
       let made = viewed-fits there.def.source of.source of.target there.def.select of.query of.asks_of of.fit of.once sound (2 ^ 40) (omega arith) rows here.kinds_fit short here.sets in
-      let is : through catalog (slice_get catalog.views view) rows ≡ viewed of.query of.target.columns rows = rw (there.at, of.asks, of.writes) refl in
-      (
+      let is : through catalog (slice_get catalog.views view) rows ≡ viewed of.query of.target.columns rows = rw (there.at, of.asks, of.writes) refl in (
         of.target,
         ap (def_at catalog) (sym fills) ∙ of.writes,
         subst (AreRowsOf of.target) (sym is) (record { kinds_fit = made.0; most = omega (arith, made.1, are.most); sets = made.2 }),

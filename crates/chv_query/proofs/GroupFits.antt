@@ -1,52 +1,35 @@
 -- What a query makes of rows of its table's kinds is of its columns' kinds, and its states have no larger sets.
-use Rattle.std.proofs.Common.{◌≡◌, ◌∙◌, ◌+◌, ◌<◌, ◌≤◌, ◌^◌, ◌&&◌, ◌⊎◌, inl, inr, ℕ, zero, suc, pos, Bool, true, false, if◌then◌else◌, List, [], ◌∷◌, ◌++◌, length, get_or, map, take, drop, Option, None, Some, is_some, Result, Ok, Err, slice_get, option_map, refl, sym, ap, subst, arith}
-use Rattle.std.proofs.Math.Seq.{drop-append_seam}
-use Rattle.std.proofs.lemmas.List.{map-append}
-use Rattle.std.proofs.lemmas.List.Elements.{All-contains, All-cons, All-drop, All-filter, All-head, All-map, All-nil, All-tail, All-weaker, Contains-get_or}
-use Rattle.std.proofs.lemmas.Option.{slice_get-map}
+use Rattle.std.proofs.Common.{◌≡◌, ◌∙◌, ◌+◌, ◌<◌, ◌≤◌, ◌^◌, ◌&&◌, ◌⊎◌, inl, inr, ℕ, zero, suc, Bool, true, false, if◌then◌else◌, List, [], ◌∷◌, ◌++◌, length, get_or, map, take, drop, Option, None, Some, is_some, slice_get, option_map, refl, sym, ap, subst, arith}
+use Rattle.std.proofs.lemmas.List.Elements.{All-contains, All-cons, All-filter, All-head, All-map, All-nil, All-tail, All-weaker, Contains-get_or}
 use Rattle.std.specs.List.{All, filter}
 use Rattle.std.specs.Option.{IfSome, option_and_then, unwrap_or}
-use Rattle.std.specs.Prelude.{IfOk}
 use Rattle.chv_agg.proofs.JoinFits.{set_size}
 use Rattle.chv_agg.proofs.StateFrontLemmas.{state_in-spelled}
-use Rattle.chv_agg.specs.StateBytes.{state_bytes, state_in}
+use Rattle.chv_agg.specs.StateBytes.{state_bytes}
 use Rattle.chv_agg.specs.States.{FitsState, value_of}
 use Rattle.chv_agg.specs.declared.any_agg.AnyAgg.{AnyAgg}
 use Rattle.chv_agg.specs.declared.any_agg.AnyAgg.TheVariants.{Count, SumU, SumI, Least, Greatest, Uniq}
-use Rattle.chv_ast.specs.declared.expr.Expr.{Expr}
-use Rattle.chv_ast.specs.declared.refusal.Refusal.{Refusal}
-use Rattle.chv_ast.specs.declared.statement.Select.{Select}
 use Rattle.chv_block.proofs.DefaultLemmas.{default_kind}
-use Rattle.chv_block.proofs.FitLemmas.{value_fits}
 use Rattle.chv_block.specs.Spellings.{AllAreOf, AreOf, IsOf}
-use Rattle.chv_catalog.proofs.StepLemmas.{and_then-Ok}
 use Rattle.chv_catalog.specs.Checks.{is_state}
-use Rattle.chv_catalog.specs.Schemas.{kinds_of}
-use Rattle.chv_catalog.specs.declared.table_def.TableDef.{TableDef}
 use Rattle.chv_expr.proofs.FitLemmas.{fits-small}
-use Rattle.chv_expr.proofs.TermFits.{AllOf, IsForm, IsTyped, column_at-form, term_of-form, term_of-typed, value_at-of}
-use Rattle.chv_expr.specs.Terms.{Term, column_at, term_of, value_at}
-use Rattle.chv_group.specs.Groups.{TakesArgument, argument_at, call_state, gives_state, grouped, inputs_of, is_empty, results, row_for, state_value, takes_states}
+use Rattle.chv_expr.proofs.TermFits.{AllOf, IsForm, IsTyped, value_at-of}
+use Rattle.chv_expr.specs.Terms.{Term, value_at}
+use Rattle.chv_group.specs.Groups.{TakesArgument, argument_at, call_state, gives_state, grouped, inputs_of, is_empty, results, row_for, state_value}
 use Rattle.chv_group.specs.declared.call.AggCall.{AggCall}
 use Rattle.chv_group.specs.declared.call.Keyed.{Keyed}
-use Rattle.chv_query.proofs.GrowthLemmas.{All-at, slice_get-more}
-use Rattle.chv_query.proofs.SetSums.{call_state-fits, call_state-size, input_size, input_size-state, input_size-value, members-length, set_in, total, total-filter, total-groups, total-length, total-map, total-more, total-none, total-same}
-use Rattle.chv_query.proofs.ShapeTerms.{AllOn, AllPlaced, IsLaid, IsLaidOut, IsOn, shape_of-laid, term_kinds}
-use Rattle.chv_query.proofs.TakesLemmas.{AreFed, FeedsShape, IsFed, ok_same, shape_of-feeds}
+use Rattle.chv_query.proofs.SetSums.{call_state-fits, call_state-size, input_size, length-mapped, members-length, set_in, total, total-filter, total-groups, total-map, total-more, total-none, total-same}
+use Rattle.chv_query.proofs.ShapeTerms.{AllPlaced, some_same, term_kinds}
 use Rattle.chv_query.specs.Calls.{call_kind}
-use Rattle.chv_query.specs.Outputs.{filter_of}
-use Rattle.chv_query.specs.Queries.{Asked, asked_of, limit_of, result_of, sorts_of}
 use Rattle.chv_query.specs.Results.{arranged, keyed, outcome, output_row, passes, shaped}
 use Rattle.chv_query.specs.Results as made_of
-use Rattle.chv_query.specs.Shapes.{shape_of}
-use Rattle.chv_query.specs.declared.groups.Groups.{Groups}
 use Rattle.chv_types.proofs.MemberLemmas.{members-HaveSame, members-Rises}
 use Rattle.chv_types.specs.Aggregates.{result_of as kind_over}
-use Rattle.chv_types.specs.Fits.{Fits, IsOfScalar}
+use Rattle.chv_types.specs.Fits.{IsOfScalar}
 use Rattle.chv_types.specs.Members.{Rises, members}
 use Rattle.chv_types.specs.Order.{row_cmp}
 use Rattle.chv_types.specs.OrderLaws.{row_cmp-IsAntisymmetric, row_cmp_total}
-use Rattle.chv_types.specs.Values.{IsPlain, plain_default}
+use Rattle.chv_types.specs.Values.{IsPlain}
 use Rattle.chv_types.specs.declared.aggregate.AggName.{AggName}
 use Rattle.chv_types.specs.declared.aggregate.AggName.TheVariants as agg
 use Rattle.chv_types.specs.declared.kind.Kind.{Kind}
@@ -55,7 +38,7 @@ use Rattle.chv_types.specs.declared.kind.Scalar.{Scalar}
 use Rattle.chv_types.specs.declared.kind.Scalar.TheVariants as scalar
 use Rattle.chv_types.specs.declared.table.Column.{Column}
 use Rattle.chv_types.specs.declared.value.Value.{Value}
-use Rattle.chv_types.specs.declared.value.Value.TheVariants.{State, Text, Truth, Whole}
+use Rattle.chv_types.specs.declared.value.Value.TheVariants.{State}
 
 -- the states of each column have sets of so many values together at most
 abbrev pub SetsWithin : ℕ → List Kind → List (List Value) → Type 0
@@ -124,9 +107,6 @@ plain_apt (kind.State function arg) is = absurd is
 not_state : (of : Kind) → is_state of ≡ false → IsPlain of
 not_state (kind.Plain plain) is = tt
 not_state (kind.State function arg) is = absurd (cc is)
-
-pub some_same : {A : Type 0} {a b : A} → Some a ≡ Some b → a ≡ b
-some_same is = cc is
 
 -- what is made of a row: nothing, or the values of the terms
 abbrev pub AllGive : List Value → List Term → List Value → Type 0
@@ -451,15 +431,15 @@ module _ (most : ℕ) (few : most < 2 ^ 64) where
       → IsWell (column_kinds columns) (map (arranged places) rows)
   arranged-well kinds places columns rows placed well = (
     All-map (AllOf IsOf (column_kinds columns)) (arranged places) rows
-    (All-weaker (AllOf IsOf kinds) (λ row. AllOf IsOf (column_kinds columns) (arranged places row)) (λ row are. arranged-are kinds places columns row placed are) rows well.0),
+        (All-weaker (AllOf IsOf kinds) (λ row. AllOf IsOf (column_kinds columns) (arranged places row)) (λ row are. arranged-are kinds places columns row placed are) rows well.0),
     (λ q of at.
-    let found = arranged-at kinds places columns q of placed at in
-    omega (
-      arith,
-      total-map (λ row. set_in of (value_at q row)) (arranged places) rows,
-      total-same (λ row. set_in of (value_at q (arranged places row))) (λ row. set_in of (value_at found.0 row)) (λ row. ap (set_in of) (found.2 row)) rows,
-      well.1 found.0 of found.1,
-    )),
+        let found = arranged-at kinds places columns q of placed at in
+        omega (
+          arith,
+          total-map (λ row. set_in of (value_at q row)) (arranged places) rows,
+          total-same (λ row. set_in of (value_at q (arranged places row))) (λ row. set_in of (value_at found.0 row)) (λ row. ap (set_in of) (found.2 row)) rows,
+          well.1 found.0 of found.1,
+        )),
   )
 
   -- groups, of which one is always there where there are no keys
@@ -502,10 +482,6 @@ module _ (most : ℕ) (few : most < 2 ^ 64) where
 
 -- there are no more groups than inputs, but for the one that is always there
 module _ (calls : List AggCall) (inputs : List Keyed) where
-  length-mapped : {A B : Type 0} (f : A → B) (xs : List A) → length (map f xs) ≡ length xs
-  length-mapped f [] = refl
-  length-mapped f (x ∷ xs) = ap suc (length-mapped f xs)
-
   count : (one : Bool) (n : ℕ) → 1 ≤ n → length inputs ≤ n
       → length (if one then row_for calls [] [] ∷ [] else map (row_for calls inputs) (members row_cmp (map (λ (input : Keyed). input.key) inputs))) ≤ n
   count true n some short = omega (arith, some)

@@ -1,5 +1,5 @@
 -- What a query makes of rows of its table's kinds is of its columns' kinds, and there are no more of them.
-use Rattle.std.proofs.Common.{◌≡◌, ◌∙◌, ◌+◌, ◌<◌, ◌≤◌, ◌^◌, ◌↔◌, inl, inr, ℕ, zero, suc, pos, max, Bool, true, false, List, [], ◌∷◌, ◌++◌, length, map, take, drop, Option, None, Some, is_some, Result, Ok, Err, slice_get, option_map, refl, sym, ap, subst, arith}
+use Rattle.std.proofs.Common.{◌≡◌, ◌∙◌, ◌+◌, ◌<◌, ◌≤◌, ◌^◌, ◌↔◌, inl, inr, ℕ, suc, pos, max, Bool, true, false, List, [], ◌∷◌, ◌++◌, length, map, take, drop, Option, None, Some, is_some, Result, Ok, Err, slice_get, option_map, refl, sym, ap, subst, arith}
 use Rattle.std.proofs.Math.Seq.{drop-append_seam}
 use Rattle.std.proofs.lemmas.List.Elements.{All-drop, All-map, All-weaker}
 use Rattle.std.proofs.lemmas.Option.{slice_get-map}
@@ -19,9 +19,9 @@ use Rattle.chv_expr.specs.Terms.{Term, column_at, constant, term_of, value_at}
 use Rattle.chv_group.specs.Groups.{TakesArgument, argument_at, grouped, takes_states}
 use Rattle.chv_group.specs.declared.call.AggCall.{AggCall}
 use Rattle.chv_group.specs.declared.call.Keyed.{Keyed}
-use Rattle.chv_query.proofs.GroupFits.{AllAreOf-from, AllAreOf-to, AllFedAt, AllGive, AllGive-drop, AllGive-typed, AllOf-take, IsApt, IsFedAt, IsWell, SetsWithin, arranged-well, column_kinds, grouped-length, grouped-well, made, made-all, made-length, plain_apt, set_in-plain, size_at, slice_get-mapped, state-total, value_at-gives}
+use Rattle.chv_query.proofs.GroupFits.{AllAreOf-from, AllAreOf-to, AllFedAt, AllGive, AllGive-drop, AllGive-typed, AllOf-take, IsApt, IsFedAt, IsWell, SetsWithin, arranged-well, column_kinds, grouped-length, grouped-well, made, made-all, made-length, plain_apt, size_at, slice_get-mapped, state-total, value_at-gives}
 use Rattle.chv_query.proofs.GrowthLemmas.{All-at}
-use Rattle.chv_query.proofs.SetSums.{input_size, input_size-state, input_size-value, set_in, total, total-length, total-map, total-same}
+use Rattle.chv_query.proofs.SetSums.{input_size, input_size-state, input_size-value, length-mapped, set_in, total, total-length, total-map, total-same}
 use Rattle.chv_query.proofs.ShapeTerms.{AllOn, IsLaid, IsLaidOut, IsOn, shape_of-laid, term_kinds}
 use Rattle.chv_query.proofs.TakesLemmas.{AreFed, FeedsShape, IsFed, ok_same, shape_of-feeds}
 use Rattle.chv_query.specs.Outputs.{filter_of}
@@ -31,7 +31,6 @@ use Rattle.chv_query.specs.Shapes.{shape_of}
 use Rattle.chv_query.specs.declared.groups.Groups.{Groups}
 use Rattle.chv_types.specs.Aggregates.{result_of as kind_over}
 use Rattle.chv_types.specs.Fits.{IsOfScalar}
-use Rattle.chv_types.specs.Values.{IsPlain}
 use Rattle.chv_types.specs.declared.kind.Kind.{Kind}
 use Rattle.chv_types.specs.declared.kind.Kind.TheVariants as kind
 use Rattle.chv_types.specs.declared.kind.Scalar.{Scalar}
@@ -47,10 +46,6 @@ IsSoundTerm kinds term = IsTyped IsOf kinds term × IsForm kinds term
 both_ok : {A E : Type 0} (P R : A → Type 0) (r : Result A E) → IfOk r P → IfOk r R → IfOk r (λ a. P a × R a)
 both_ok P R (Ok a) p q = (p, q)
 both_ok P R (Err e) p q = tt
-
-length-mapped : {A B : Type 0} (f : A → B) (xs : List A) → length (map f xs) ≡ length xs
-length-mapped f [] = refl
-length-mapped f (x ∷ xs) = ap suc (length-mapped f xs)
 
 -- a term's kind is that of states only where a column's is
 term_apt : (kinds : List Kind) (term : Term) → All IsApt kinds → IsForm kinds term → IsApt term.kind
@@ -72,9 +67,9 @@ module _ (kinds : List Kind) (apt : All IsApt kinds) (most : ℕ) (few : most < 
   single-well = (
     made-are,
     (λ place of at.
-    let found = slice_get-mapped (λ (term : Term). term.kind) terms place of at in
-    subst (λ (k : Kind). total (λ values. set_in k (value_at place values)) (made condition terms rows) ≤ most) found.2
-    (state-total condition terms kinds 0 place found.0 most found.1 (All-at (IsForm kinds) terms place found.0 formed found.1) rows within)),
+        let found = slice_get-mapped (λ (term : Term). term.kind) terms place of at in
+        subst (λ (k : Kind). total (λ values. set_in k (value_at place values)) (made condition terms rows) ≤ most) found.2
+        (state-total condition terms kinds 0 place found.0 most found.1 (All-at (IsForm kinds) terms place found.0 formed found.1) rows within)),
   )
 
   module _ (groups : Groups) (columns : List Column) (laid : IsLaid groups terms columns) (feeds : AreFed groups.calls (drop groups.keys terms)) where
@@ -122,9 +117,9 @@ module _ (kinds : List Kind) (apt : All IsApt kinds) (most : ℕ) (few : most < 
           arith,
           total-map (size_at most few call place) (keyed groups.keys) (made condition terms rows),
           total-same (λ values. input_size call (value_at place (drop groups.keys values))) (λ values. set_in (kind.State call.agg call.arg) (value_at place (drop groups.keys values)))
-          (λ values. input_size-state call (value_at place (drop groups.keys values)) states) (made condition terms rows),
+              (λ values. input_size-state call (value_at place (drop groups.keys values)) states) (made condition terms rows),
           subst (λ (k : Kind). total (λ values. set_in k (value_at place (drop groups.keys values))) (made condition terms rows) ≤ most) is
-          (state-total condition terms kinds groups.keys place term most at (arg_form term place at) rows within),
+              (state-total condition terms kinds groups.keys place term most at (arg_form term place at) rows within),
         )
 
     call_fed : (call : AggCall) (term : Term) (place : ℕ) → slice_get args place ≡ Some term → IsOn call term → IsFed call term → IsFedAt most few call place inputs
@@ -146,9 +141,9 @@ module _ (kinds : List Kind) (apt : All IsApt kinds) (most : ℕ) (few : most < 
         let here : place + 0 ≡ place = omega arith in (
           call_fed call term place (subst (λ (n : ℕ). slice_get args n ≡ Some term) here (at 0 term refl)) on.0 fed.0,
           all_fed (place + 1) calls rest
-          (λ i other e.
-          let next : place + suc i ≡ place + 1 + i = omega arith in
-          subst (λ (n : ℕ). slice_get args n ≡ Some other) next (at (suc i) other e)) on.1 fed.1,
+              (λ i other e.
+              let next : place + suc i ≡ place + 1 + i = omega arith in
+              subst (λ (n : ℕ). slice_get args n ≡ Some other) next (at (suc i) other e)) on.1 fed.1,
         )
 
     calls_fed : AllFedAt most few 0 groups.calls inputs

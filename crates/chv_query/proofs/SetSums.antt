@@ -1,10 +1,10 @@
 -- The sets of states: how many values they have together, where they are joined, and where their inputs are grouped.
-use Rattle.std.proofs.Common.{◌≡◌, ◌∙◌, ◌+◌, ◌<◌, ◌≤◌, ◌^◌, ℕ, pos, suc, Bool, true, false, cond, if◌then◌else◌, List, [], ◌∷◌, length, map, refl, sym, ap, subst, arith, Less, Equal, Greater}
+use Rattle.std.proofs.Common.{◌≡◌, ◌+◌, ◌<◌, ◌≤◌, ◌^◌, ℕ, pos, suc, Bool, true, false, cond, if◌then◌else◌, List, [], ◌∷◌, length, map, refl, sym, ap, subst, arith, Less, Equal, Greater}
 use Rattle.std.proofs.lemmas.List.Elements.{All-head, All-tail}
 use Rattle.std.specs.List.{All, filter}
 use Rattle.std.specs.Ordering.{is_eq}
 use Rattle.std.specs.declared.cmp.Ordering.{Ordering}
-use Rattle.chv_agg.proofs.JoinFits.{set_size, set_size-join, set_size-state_in, set_size-unit}
+use Rattle.chv_agg.proofs.JoinFits.{set_size, set_size-join, set_size-unit}
 use Rattle.chv_agg.proofs.StateFrontLemmas.{state_in-fits}
 use Rattle.chv_agg.proofs.StateLemmas.{FitsState-counted}
 use Rattle.chv_agg.specs.StateBytes.{state_in}
@@ -25,7 +25,11 @@ use Rattle.chv_types.specs.declared.kind.Kind.{Kind}
 use Rattle.chv_types.specs.declared.kind.Kind.TheVariants as kind
 use Rattle.chv_types.specs.declared.kind.Scalar.{Scalar}
 use Rattle.chv_types.specs.declared.value.Value.{Value}
-use Rattle.chv_types.specs.declared.value.Value.TheVariants.{State, Text, Truth, Whole}
+
+-- a list is as long where something is made of each item
+pub length-mapped : {A B : Type 0} (f : A → B) (xs : List A) → length (map f xs) ≡ length xs
+length-mapped f [] = refl
+length-mapped f (x ∷ xs) = ap suc (length-mapped f xs)
 
 -- the numbers of items together
 abbrev pub total : {A : Type 0} → (A → ℕ) → List A → ℕ

@@ -1,11 +1,10 @@
 -- What a query evaluates, and where a query that groups has its output columns among keys and results.
-use Rattle.std.proofs.Common.{◌≡◌, ◌∙◌, ◌+◌, ◌&&◌, ℕ, zero, suc, pos, Bool, true, false, if◌then◌else◌, List, [], ◌∷◌, ◌++◌, length, map, Option, None, Some, is_some, Result, Ok, Err, slice_get, option_map, refl, sym, ap, subst, arith, append_assoc, length-append}
+use Rattle.std.proofs.Common.{◌≡◌, ◌∙◌, ◌+◌, ℕ, suc, pos, Bool, true, false, if◌then◌else◌, List, [], ◌∷◌, ◌++◌, length, map, Option, None, Some, is_some, Ok, slice_get, option_map, refl, sym, ap, subst, arith, append_assoc, length-append}
 use Rattle.std.proofs.lemmas.List.{map-append}
 use Rattle.std.proofs.lemmas.List.Elements.{All-append, All-cons, All-head, All-nil}
 use Rattle.std.proofs.lemmas.Option.{slice_get-map}
 use Rattle.std.specs.List.{All}
 use Rattle.std.specs.Prelude.{IfOk}
-use Rattle.chv_ast.specs.declared.expr.Args.{Args}
 use Rattle.chv_ast.specs.declared.expr.Expr.{Expr}
 use Rattle.chv_ast.specs.declared.refusal.Refusal.{Refusal}
 use Rattle.chv_ast.specs.declared.refusal.Refusal.TheVariants.{TypeMismatch, UnknownColumn}
@@ -20,15 +19,16 @@ use Rattle.chv_group.specs.Groups.{is_empty, takes_states}
 use Rattle.chv_group.specs.declared.call.AggCall.{AggCall}
 use Rattle.chv_query.proofs.GrowthLemmas.{slice_get-more}
 use Rattle.chv_query.proofs.KeyLemmas.{length-terms}
+use Rattle.chv_query.proofs.SetSums.{length-mapped}
 use Rattle.chv_query.proofs.ShapeLemmas.{kinds-columns_of}
 use Rattle.chv_query.proofs.TakesLemmas.{ok_same}
-use Rattle.chv_query.specs.Calls.{Called, Wanted, call_kind, call_of, called_alone, called_on, called_with, over_of, same_function, values_of, wanted}
+use Rattle.chv_query.specs.Calls.{Called, Wanted, call_kind, call_of, called_alone, called_with, over_of, same_function, values_of, wanted}
 use Rattle.chv_query.specs.Keys.{Key, key_of, key_term, key_tree, keys_of, place_of_key}
-use Rattle.chv_query.specs.Outputs.{Output, columns_from, columns_of, item_outputs, output_name, outputs_of}
+use Rattle.chv_query.specs.Outputs.{Output, columns_from, item_outputs, output_name, outputs_of}
 use Rattle.chv_query.specs.Shapes.{Cells, Shape, is_grouping, key_shown, no_cells, put_item, put_items, put_wanted, shape_of, shape_of_cells, shape_of_groups, shape_of_outputs, with_call, with_key}
 use Rattle.chv_query.specs.declared.groups.Groups.{Groups}
 use Rattle.chv_types.specs.Aggregates.{result_of, sum_of}
-use Rattle.chv_types.specs.Steps.{and_then, or_refuse, refuse_if}
+use Rattle.chv_types.specs.Steps.{and_then, or_refuse}
 use Rattle.chv_types.specs.declared.aggregate.AggForm.{AggForm}
 use Rattle.chv_types.specs.declared.aggregate.AggForm.TheVariants as form
 use Rattle.chv_types.specs.declared.aggregate.AggName.{AggName}
@@ -133,7 +133,7 @@ on_is name form term (Some found) called e is =
 abbrev zero_term : Term
 zero_term = constant scalar.UInt64 (Whole (pos 0))
 
-some_same : {A : Type 0} {a b : A} → Some a ≡ Some b → a ≡ b
+pub some_same : {A : Type 0} {a b : A} → Some a ≡ Some b → a ≡ b
 some_same is = cc is
 
 alone_is : (name : AggName) (form : AggForm) (called : Called) → called_alone name form ≡ Some called → IsOn called.call called.arg × (called.arg ≡ zero_term)
@@ -169,10 +169,6 @@ AllPlaced-push kinds (other ∷ places) (first ∷ columns) place column all is 
 slice_get-last : (kinds : List Kind) (k : Kind) → slice_get (kinds ++ k ∷ []) (length kinds) ≡ Some k
 slice_get-last [] k = refl
 slice_get-last (first ∷ kinds) k = slice_get-last kinds k
-
-length-mapped : {A B : Type 0} (f : A → B) (xs : List A) → length (map f xs) ≡ length xs
-length-mapped f [] = refl
-length-mapped f (x ∷ xs) = ap suc (length-mapped f xs)
 
 abbrev key_kinds : List Key → List Kind
 key_kinds keys = map (λ (key : Key). key.term.kind) keys

@@ -1,13 +1,12 @@
 -- What a view makes is of the columns of its target.
-use Rattle.std.proofs.Common.{◌≡◌, ◌∙◌, ◌+◌, ◌*◌, ◌<◌, ◌≤◌, ◌^◌, ◌&&◌, ◌||◌, ◌⊎◌, inl, inr, ℕ, ℤ, zero, suc, pos, Bool, true, false, not, cond, nat_eq, if◌then◌else◌, List, [], ◌∷◌, length, get_or, map, Option, None, Some, is_some, Ok, slice_get, option_map, refl, sym, ap, subst, arith, rules, tests}
-use Rattle.std.proofs.lemmas.Bool.{and_parts, or_cases, or_parts}
+use Rattle.std.proofs.Common.{◌≡◌, ◌∙◌, ◌+◌, ◌*◌, ◌<◌, ◌≤◌, ◌^◌, ◌⊎◌, inl, inr, ℕ, ℤ, zero, suc, pos, Bool, true, false, not, cond, nat_eq, if◌then◌else◌, List, [], ◌∷◌, length, get_or, map, Option, None, Some, is_some, Ok, slice_get, option_map, refl, sym, ap, subst, arith, rules, tests}
+use Rattle.std.proofs.lemmas.Bool.{or_cases, or_parts}
 use Rattle.std.proofs.lemmas.List.Elements.{All-head, All-map, All-nil, All-tail, All-weaker}
 use Rattle.std.proofs.lemmas.List.Quantifiers.{position-Some}
-use Rattle.std.proofs.lemmas.Option.{slice_get-get_or, slice_get-map, slice_get_within}
+use Rattle.std.proofs.lemmas.Option.{slice_get-get_or, slice_get-map}
 use Rattle.std.proofs.lemmas.Slice.Eq.{bytes_eq-Decides}
-use Rattle.std.specs.List.{All, list_any, position}
+use Rattle.std.specs.List.{All, list_any}
 use Rattle.std.specs.Option.{option_and_then, unwrap_or}
-use Rattle.std.specs.Prelude.{int_le}
 use Rattle.std.specs.Str.{bytes_eq}
 use Rattle.chv_agg.proofs.JoinFits.{set_size, set_size-state_in}
 use Rattle.chv_agg.proofs.StateFrontLemmas.{state_in-fits, state_in-spelled}
@@ -26,10 +25,10 @@ use Rattle.chv_catalog.specs.declared.table_def.TableDef.{TableDef}
 use Rattle.chv_expr.proofs.TermFits.{AllOf, value_at-of}
 use Rattle.chv_expr.specs.Terms.{value_at}
 use Rattle.chv_part.specs.Books.{MAX_ROWS}
-use Rattle.chv_query.proofs.GroupFits.{AllAreOf-from, AllAreOf-to, IsApt, SetsWithin, column_kinds, set_in-plain, slice_get-mapped, some_same}
+use Rattle.chv_query.proofs.GroupFits.{AllAreOf-from, AllAreOf-to, IsApt, SetsWithin, column_kinds, slice_get-mapped}
 use Rattle.chv_query.proofs.GrowthLemmas.{All-at}
 use Rattle.chv_query.proofs.QueryFits.{plain_same, result_of-fits, result_of-length}
-use Rattle.chv_query.proofs.SetSums.{set_in, total, total-map, total-more, total-none, total-same}
+use Rattle.chv_query.proofs.SetSums.{length-mapped, set_in, total, total-map, total-more, total-none, total-same}
 use Rattle.chv_query.specs.Derived.{put_to, value_to, viewed}
 use Rattle.chv_query.specs.Queries.{Asked, asked_of, result_of}
 use Rattle.chv_query.specs.Views.{fills, fills_place, is_wider, kind_eq, lies_within, names_in, widens_to}
@@ -37,7 +36,7 @@ use Rattle.chv_types.specs.Fits.{IsOfScalar}
 use Rattle.chv_types.specs.Kinds.{LiesIn, range_of}
 use Rattle.chv_types.specs.Names.{place_of}
 use Rattle.chv_types.specs.Order.{bytes}
-use Rattle.chv_types.specs.Values.{default_of, empty_state}
+use Rattle.chv_types.specs.Values.{default_of}
 use Rattle.chv_types.specs.declared.aggregate.AggName.{AggName}
 use Rattle.chv_types.specs.declared.aggregate.AggName.TheVariants as agg
 use Rattle.chv_types.specs.declared.kind.Kind.{Kind}
@@ -280,7 +279,7 @@ module _ (target : List Column) (once : has_repeat (names_in target) ≡ false) 
         omega (
           arith,
           total-more (AllOf IsOf (column_kinds columns)) (λ values. set_in to.kind (unwrap_or (slice_get values p) (default_of to.kind))) (λ values. set_in from.0.kind (value_at p values))
-          (λ values of. by from.0.kind values widens (slice_get values p) refl) rows are,
+              (λ values of. by from.0.kind values widens (slice_get values p) refl) rows are,
           within p from.0.kind here,
         )
       where
@@ -300,13 +299,9 @@ module _ (target : List Column) (once : has_repeat (names_in target) ≡ false) 
           arith,
           total-map (λ row. set_in to.0.kind (value_at place row)) (put_to target names) rows,
           total-same (λ values. set_in to.0.kind (value_at place (put_to target names values))) (λ values. set_in to.0.kind (value_to names values to.0))
-          (λ values. ap (set_in to.0.kind) (same values)) rows,
+              (λ values. ap (set_in to.0.kind) (same values)) rows,
           given_within place to.0 (place_of to.0.name names) to.1 refl,
         ))
-
-length-mapped : {A B : Type 0} (f : A → B) (xs : List A) → length (map f xs) ≡ length xs
-length-mapped f [] = refl
-length-mapped f (x ∷ xs) = ap suc (length-mapped f xs)
 
 -- there are no more rows than there were
 pub viewed-length : (query : Asked) (columns : List Column) (rows : List (List Value)) → length (viewed query columns rows) ≤ length rows
@@ -328,9 +323,9 @@ viewed-well number def target select query asks fit once apt most few (row ∷ r
     let result = result_of query (row ∷ rows) in
     let of : All (AllOf IsOf (column_kinds query.columns)) result = AllAreOf-to (column_kinds query.columns) result made.0 in (
       AllAreOf-from (kinds_of target) (map (put_to target.columns (names_in query.columns)) result)
-      (All-map (AllOf IsOf (kinds_of target)) (put_to target.columns (names_in query.columns)) result
-      (All-weaker (AllOf IsOf (column_kinds query.columns)) (λ values. AllOf IsOf (kinds_of target) (put_to target.columns (names_in query.columns) values))
-      (λ values is. put_to-are target.columns once query.columns fit values is) result of)),
+          (All-map (AllOf IsOf (kinds_of target)) (put_to target.columns (names_in query.columns)) result
+          (All-weaker (AllOf IsOf (column_kinds query.columns)) (λ values. AllOf IsOf (kinds_of target) (put_to target.columns (names_in query.columns) values))
+          (λ values is. put_to-are target.columns once query.columns fit values is) result of)),
       put_to-within target.columns once query.columns fit most result of made.1,
     )
 
