@@ -21,7 +21,7 @@ use Rattle.chv_history.specs.Events.{with_commit, written_in}
 use Rattle.chv_history.specs.Histories.{History, IsLawful, book_of, forms_of, window_at, window_in, with_accepted, with_none}
 use Rattle.chv_history.specs.Runs.{entries_in}
 use Rattle.chv_history.proofs.ArrivingLemmas.{with_none-new, with_none-other}
-use Rattle.chv_history.proofs.Assumed.{arrival-entry}
+use Rattle.chv_query.proofs.EntryLemmas.{arrival-entry}
 use Rattle.chv_history.proofs.CommitLemmas.{arrivals-other, arrivals-with_commit, is_skipped, schema-with_commit, written_in-new, written_in-skipped}
 use Rattle.chv_history.proofs.EntryLemmas.{book_of-arrived, book_of-other, length-entries}
 

@@ -1,6 +1,5 @@
 pub mod AcknowledgedLemmas
 pub mod ArrivingLemmas
-pub mod Assumed
 pub mod CommitLemmas
 pub mod EntryLemmas
 pub mod FillingLemmas
