@@ -7,11 +7,12 @@ use Rattle.chv_ast.specs.declared.refusal.Refusal.{Refusal}
 use Rattle.chv_ast.specs.declared.statement.CreateTable.{CreateTable}
 use Rattle.chv_ast.specs.declared.statement.Statement.TheVariants as statement
 use Rattle.chv_catalog.proofs.SchemaLemmas.{same_tables}
-use Rattle.chv_catalog.specs.Schemas.{Catalog, with_table}
+use Rattle.chv_catalog.specs.Schemas.{Catalog, with_definition}
+use Rattle.chv_catalog.specs.declared.definition.Definition.TheVariants.{Table}
 use Rattle.chv_catalog.specs.declared.table_def.TableDef.{TableDef}
 use Rattle.chv_commit.specs.Replays.{State, no_state}
 use Rattle.chv_commit.specs.declared.commit.Commit.{Commit}
-use Rattle.chv_query.specs.Accepted.{Accepted, IsAccepted, Table, catalog_of, catalog_payload}
+use Rattle.chv_query.specs.Accepted.{Accepted, IsAccepted, catalog_of, catalog_payload}
 use Rattle.chv_query.specs.Definitions.{defined}
 use Rattle.chv_query.proofs.AcceptedLemmas.{IsSchema-push, catalog_of-push}
 use Rattle.chv_part.specs.Books.{Book, TableForm, no_book}
@@ -24,7 +25,7 @@ use Rattle.chv_site.specs.declared.file_id.FileId.{FileId}
 use Rattle.chv_site.proofs.Moments.{weakened}
 use Rattle.chv_store.specs.Calls.{ChangesLogs, StandsFor, Turns}
 use Rattle.chv_store.specs.Holding.{HoldsBooks, HoldsLogs, with_book, with_one}
-use Rattle.chv_store.specs.Openings.{MakesTable}
+use Rattle.chv_store.specs.Openings.{MakesDefinition}
 use Rattle.chv_store.specs.Stores.{IsHeldAs, IsUsable, forms_of, states_of, state_of}
 use Rattle.chv_store.specs.declared.store.Store.{Store}
 use Rattle.chv_store.proofs.EachTableLemmas.{each-length}
@@ -63,16 +64,29 @@ pub record HasCreated (tells : Type 0) (result : Result (Unit {0}) PutFault) (wa
       (StandsFor (payloads ++ catalog_payload (made create def) ∷ []) (forms_of was ++ form_of def ∷ []) (with_book (length was.schema.catalog.tables + 1) no_book books)) old new
   pub logged : tells → (payloads : List (List ℕ)) (commits : ℕ → List Commit) → HoldsLogs was old.files payloads commits → (old.files (table_log (length was.schema.catalog.tables + 1))).most ≤ 1
       → OnOk result (HoldsLogs is new.files (payloads ++ catalog_payload (made create def) ∷ []) (with_one (length was.schema.catalog.tables + 1) [] commits))
-  pub held : OnOk result ((is.schema.catalog ≡ with_table def was.schema.catalog) × (states_of is ≡ states_of was ++ no_state ∷ []))
+  pub held : OnOk result ((is.schema.catalog ≡ with_definition (Table def) was.schema.catalog) × (states_of is ≡ states_of was ++ no_state ∷ []))
   pub keeps : ChangesLogs tells (IsErrOf result put.Failed) (length was.schema.catalog.tables + 1) old new
 
 -- a table that is not defined is refused
 pub create_refused : (store : Store) (create : CreateTable) (refuses : Refusal) → defined store.schema.catalog create ≡ Err refuses → Asks (create_wish create) store (Err refuses)
 create_refused store create refuses is entries agree = ap (λ (r : Result TableDef Refusal). and_then r (λ d. Ok (Make (made create d)))) is
 
--- a definition of a table asks for no rows
-make_tells_none : (accepted : Accepted) → TellsNone (Make accepted)
+-- a definition asks for no rows
+pub make_tells_none : (accepted : Accepted) → TellsNone (Make accepted)
 make_tells_none accepted query same = cc same
+
+-- a fault of what is put, by what ends the run
+pub failed_by : (fault : PutFault) → put_fault_of fault ≡ Disk → fault ≡ put.Failed
+failed_by put.Failed disk = refl
+failed_by put.NoMemory disk = cc disk
+
+pub failed_so : (fault : PutFault) → ◌≡◌ {A = Result (Unit {0}) PutFault} (Err fault) (Err put.Failed) → put_fault_of fault ≡ Disk
+failed_so put.Failed same = refl
+failed_so put.NoMemory same = cc same
+
+pub unsaid : (fault : PutFault) → put_fault_of fault ≡ Say → ⊥
+unsaid put.Failed same = cc same
+unsaid put.NoMemory same = cc same
 
 -- one state more that is the default is read as the default
 get_or-default : {X : Type 0} (xs : List X) (i : ℕ) (d : X) → get_or (xs ++ d ∷ []) i d ≡ get_or xs i d
@@ -82,7 +96,7 @@ get_or-default (x ∷ xs) zero d = refl
 get_or-default (x ∷ xs) (suc i) d = get_or-default xs i d
 
 module _ (tells : Type 0) (client : ℕ) (result : Result (Unit {0}) PutFault) (was is : Store) (create : CreateTable) (def : TableDef) (old new : Outside) (usable : IsUsable tells was old)
-    (makes : MakesTable was.schema.catalog (statement.CreateTable create) def) (call : HasCreated tells result was is create def old new) where
+    (makes : MakesDefinition was.schema.catalog (statement.CreateTable create) (Table def)) (call : HasCreated tells result was is create def old new) where
   abbrev accepted : Accepted
   accepted = made create def
 
@@ -136,18 +150,18 @@ module _ (tells : Type 0) (client : ℕ) (result : Result (Unit {0}) PutFault) (
 
     create_at : result ≡ Ok tt → tells → IsAt is new before (happen (Created accepted) m)
     create_at ok tell =
-        let held = subst (λ (r : Result (Unit {0}) PutFault). OnOk r ((is.schema.catalog ≡ with_table def was.schema.catalog) × (states_of is ≡ states_of was ++ no_state ∷ []))) ok call.held in
+        let held = subst (λ (r : Result (Unit {0}) PutFault). OnOk r ((is.schema.catalog ≡ with_definition (Table def) was.schema.catalog) × (states_of is ≡ states_of was ++ no_state ∷ []))) ok call.held in
         let holds = subst (λ (r : Result (Unit {0}) PutFault). OnOk r (HoldsBooks is new.files (payloads ++ catalog_payload (made create def) ∷ []) books)) ok (turns tell).done in
         record {
           lawful = lawful_next;
-          catalog = held.0 ∙ ap (with_table def) at.catalog ∙ sym (catalog_of-push m.history.schema accepted);
+          catalog = held.0 ∙ ap (with_definition (Table def)) at.catalog ∙ sym (catalog_of-push m.history.schema accepted);
           holds = subst (λ (ps : List (List ℕ)). HoldsBooks is new.files ps (book_of next)) payloads_next (holds_by is new.files (payloads ++ catalog_payload (made create def) ∷ []) books (book_of next) books_next holds);
           text = call.keeps.said tell ∙ at.text;
         }
 
   module _ (ok : result ≡ Ok tt) where
-    held : (is.schema.catalog ≡ with_table def was.schema.catalog) × (states_of is ≡ states_of was ++ no_state ∷ [])
-    held = subst (λ (r : Result (Unit {0}) PutFault). OnOk r ((is.schema.catalog ≡ with_table def was.schema.catalog) × (states_of is ≡ states_of was ++ no_state ∷ []))) ok call.held
+    held : (is.schema.catalog ≡ with_definition (Table def) was.schema.catalog) × (states_of is ≡ states_of was ++ no_state ∷ [])
+    held = subst (λ (r : Result (Unit {0}) PutFault). OnOk r ((is.schema.catalog ≡ with_definition (Table def) was.schema.catalog) × (states_of is ≡ states_of was ++ no_state ∷ []))) ok call.held
 
     one_more : length is.schema.catalog.tables ≡ number
     one_more = ap (λ (catalog : Catalog). length catalog.tables) held.0 ∙ length-append was.schema.catalog.tables (def ∷ [])
@@ -164,7 +178,7 @@ module _ (tells : Type 0) (client : ℕ) (result : Result (Unit {0}) PutFault) (
         let last = length kept.catalog.tables + 1 in
         let many : length was.schema.catalog.tables ≡ length kept.catalog.tables = ap (λ (catalog : Catalog). length catalog.tables) has.catalog in
         record {
-          catalog = held.0 ∙ ap (with_table def) has.catalog;
+          catalog = held.0 ∙ ap (with_definition (Table def)) has.catalog;
           states = λ table first within. elim (cases_eq table last) as (λ _. state_of is table ≡ put_at last no_state kept.states table) [
             | inl same ↦
                 same_state table ∙ get_or_past (states_of was) (table - 1) no_state (omega (arith, same, few_states, many))
@@ -182,7 +196,7 @@ module _ (tells : Type 0) (client : ℕ) (result : Result (Unit {0}) PutFault) (
         record {
           schema = logged.schema ++ accepted ∷ [];
           lawful = IsSchema-push logged.schema accepted logged.lawful makes.built passes;
-          catalog = held.0 ∙ ap (with_table def) logged.catalog ∙ sym (catalog_of-push logged.schema accepted);
+          catalog = held.0 ∙ ap (with_definition (Table def)) logged.catalog ∙ sym (catalog_of-push logged.schema accepted);
           commits = with_one number [] logged.commits;
           holds = subst (λ (ps : List (List ℕ)). HoldsLogs is new.files ps (with_one number [] logged.commits)) (sym (map_push catalog_payload logged.schema accepted))
               (subst (λ (r : Result (Unit {0}) PutFault). OnOk r (HoldsLogs is new.files (payloads ++ catalog_payload (made create def) ∷ []) (with_one number [] logged.commits))) ok holds);
@@ -225,15 +239,3 @@ module _ (tells : Type 0) (client : ℕ) (result : Result (Unit {0}) PutFault) (
   create_ended fault is_err =
       ended_task tells client (create_wish create) (Make accepted) fault was is old new (make_tells_none accepted) usable asks (λ tell before m at. create_during before m at tell (Replied (ok_line client) [] false ∷ []))
       (counts_read (put_fault_of fault) (IsErrOf result put.Failed) old new call.keeps.counts (λ disk. is_err ∙ ap (λ (f : PutFault). Err f) (failed_by fault disk)) (λ failed. failed_so fault (sym is_err ∙ failed)) (unsaid fault))
-    where
-      failed_by : (fault : PutFault) → put_fault_of fault ≡ Disk → fault ≡ put.Failed
-      failed_by put.Failed disk = refl
-      failed_by put.NoMemory disk = cc disk
-
-      failed_so : (fault : PutFault) → ◌≡◌ {A = Result (Unit {0}) PutFault} (Err fault) (Err put.Failed) → put_fault_of fault ≡ Disk
-      failed_so put.Failed same = refl
-      failed_so put.NoMemory same = cc same
-
-      unsaid : (fault : PutFault) → put_fault_of fault ≡ Say → ⊥
-      unsaid put.Failed same = cc same
-      unsaid put.NoMemory same = cc same

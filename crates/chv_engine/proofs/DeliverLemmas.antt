@@ -13,10 +13,12 @@ use Rattle.chv_catalog.specs.declared.table_def.TableDef.{TableDef}
 use Rattle.chv_commit.specs.Replays.{State, added, no_state}
 use Rattle.chv_commit.specs.declared.commit.Commit.{Commit}
 use Rattle.chv_query.specs.Accepted.{catalog_of, catalog_payload, tables_of}
-use Rattle.chv_part.specs.Books.{Book, Entry, arrived}
+use Rattle.chv_part.specs.Books.{Book, Entry, IsEntry, arrived}
 use Rattle.chv_part.specs.Forms.{form_of}
 use Rattle.chv_part.specs.Parts.{IsPartFile}
 use Rattle.chv_query.specs.Arrivals.{Arrival, IsArrival, entry_in}
+use Rattle.chv_query.specs.Derived.{def_at}
+use Rattle.chv_query.proofs.EntryLemmas.{arrival-entry}
 use Rattle.chv_query.specs.Plans.{Delivery}
 use Rattle.chv_plan.specs.Deliveries.{Delivers as IsHeldDelivery}
 use Rattle.chv_plan.specs.declared.delivery.Delivery.{Delivery as HeldDelivery}
@@ -48,8 +50,8 @@ use Rattle.chv_history.specs.Kept.{Kept, kept_delivery, noted}
 use Rattle.chv_history.specs.Runs.{delivered, delivery_event, written_of}
 use Rattle.chv_history.proofs.ArrivingLemmas.{put_at-other, put_at-same}
 use Rattle.chv_history.proofs.CommitLemmas.{is_skipped, schema-with_commit, written_in-new, written_in-skipped}
-use Rattle.chv_history.proofs.EntryLemmas.{IsEntry-IsArrival, books-arrived, ids_of-book_of}
-use Rattle.chv_history.proofs.LawfulLemmas.{MayArrive, form_there, lawful_arrived}
+use Rattle.chv_history.proofs.EntryLemmas.{books-arrived, ids_of-book_of}
+use Rattle.chv_history.proofs.LawfulLemmas.{MayArrive, lawful_arrived}
 use Rattle.chv_history.proofs.LeftLemmas.{left_either}
 use Rattle.chv_history.proofs.StandingLemmas.{stands_by}
 use Rattle.chv_engine.specs.Answers.{HoldsKept, IsAt, IsLogged}
@@ -60,6 +62,13 @@ use Rattle.chv_engine.proofs.AnswerLemmas.{held_at, moment_entries}
 abbrev pub count_of : Delivered → ℕ
 count_of Written = 1
 count_of Skipped = 0
+
+-- an arrival is an entry of its table
+its_entry : (store : Store) → IsWithin store → (table : ℕ) (def : TableDef) → slice_get store.schema.catalog.tables (table - 1) ≡ Some def → (a : Arrival) → IsArrival store.schema.catalog table a
+    → IsEntry (form_of def) (entry_in a)
+its_entry store within table def stands a is =
+    let defined = within.defined in
+    arrival-entry defined.0 defined.1 table def (subst (λ (catalog : Catalog). def_at catalog table ≡ Some def) (sym defined.2) stands) a (subst (λ (catalog : Catalog). IsArrival catalog table a) (sym defined.2) is)
 
 -- what the store's call did
 pub record HasDelivered (tells : Type 0) (result : Result Delivered Failed) (was is : Store) (table : ℕ) (id : BlockId) (rows : ℕ) (encoded : List ℕ) (old new : Outside) : Type 0 where
@@ -114,10 +123,10 @@ nothing_ok (Ok x) P err = absurd (false≢true err)
 nothing_ok (Err e) P err = tt
 
 module _ (tells : Type 0) (result : Result Delivered Failed) (was is : Store) (planned : Delivery) (encoded : List ℕ) (old new : Outside) (within : IsWithin was) (room : HasRoom 1 was planned.table)
-    (def : TableDef) (stands : slice_get was.schema.catalog.tables (planned.table - 1) ≡ Some def) (lawful : IsArrival (form_of def) planned.entry) (encoded_is : IsPartFile (form_of def) planned.entry.rows encoded)
+    (def : TableDef) (stands : slice_get was.schema.catalog.tables (planned.table - 1) ≡ Some def) (lawful : IsArrival was.schema.catalog planned.table planned.entry) (encoded_is : IsPartFile (form_of def) planned.entry.rows encoded)
     (call : HasDelivered tells result was is planned.table planned.entry.id (length planned.entry.rows) encoded old new) where
   brings : BringsTo was.schema.catalog.tables planned.table planned.entry.id (length planned.entry.rows) encoded (entry_in planned.entry)
-  brings = record { def = def; stands = stands; lawful = IsEntry-IsArrival (form_of def) planned.entry lawful; id_is = refl; rows_are = refl; encoded_is = encoded_is }
+  brings = record { def = def; stands = stands; lawful = its_entry was within planned.table def stands planned.entry lawful; id_is = refl; rows_are = refl; encoded_is = encoded_is }
 
   -- the table that stands there says what is held
   stands_state : slice_get (states_of was) (planned.table - 1) ≡ Some (held_state room.held)
@@ -155,10 +164,10 @@ module _ (tells : Type 0) (result : Result Delivered Failed) (was is : Store) (p
 
     may : MayArrive m.history planned.table planned.entry
     may = record {
-      first = room.is_table.first;
-      form = form_of def;
-      stands = form_there (tables_of m.history.schema) (planned.table - 1) def (subst (λ (catalog : Catalog). slice_get catalog.tables (planned.table - 1) ≡ Some def) at.catalog stands);
-      is = lawful;
+      numbered = room.is_table.first;
+      def = def;
+      stands = subst (λ (catalog : Catalog). def_at catalog planned.table ≡ Some def) at.catalog stands;
+      is = subst (λ (catalog : Catalog). IsArrival catalog planned.table planned.entry) at.catalog lawful;
       room =
           let held = moment_entries was old before m within at planned.table room.is_table.first room.is_table.last in
           let there : (state_of was planned.table).entries ≡ (held_state room.held).entries = ap (λ (s : State). s.entries) state_is in
@@ -312,12 +321,12 @@ module _ (tells : Type 0) (result : Result Delivered Failed) (was is : Store) (p
 
 -- so it is with a delivery by what is held of it
 module _ (tells : Type 0) (result : Result Delivered Failed) (was is : Store) (held : HeldDelivery) (encoded : List ℕ) (same : encoded ≡ held.encoded) (old new : Outside) (within : IsWithin was) (room : HasRoom 1 was held.table)
-    (call : HasDelivered tells result was is held.table held.id held.rows encoded old new) (planned : Delivery) (of : IsHeldDelivery was.schema.catalog.tables held planned) where
+    (call : HasDelivered tells result was is held.table held.id held.rows encoded old new) (planned : Delivery) (of : IsHeldDelivery was.schema.catalog held planned) where
   its_room : HasRoom 1 was planned.table
   its_room = subst (HasRoom 1 was) of.table room
 
   its_file : IsPartFile (form_of of.def) planned.entry.rows encoded
-  its_file = record { kinds_fit = (IsEntry-IsArrival (form_of of.def) planned.entry of.lawful).kinds_fit; spelled = same ∙ of.encoded }
+  its_file = record { kinds_fit = (its_entry was within planned.table of.def of.stands planned.entry of.lawful).kinds_fit; spelled = same ∙ of.encoded }
 
   its_call : HasDelivered tells result was is planned.table planned.entry.id (length planned.entry.rows) encoded old new
   its_call =

@@ -1,8 +1,7 @@
 -- What comes of an insert: it is refused for want of room; or its deliveries are made, and a reply says how many were written.
-use Rattle.std.proofs.Common.{◌≡◌, ℕ, ◌+◌, ◌-◌, ◌≤◌, Bool, false, not, nat_lt, List, [], ◌∷◌, length, map, get_or, Ok, Err, IsErr, refl, sym, ap, ap₂, subst, ◌∙◌, arith}
+use Rattle.std.proofs.Common.{◌≡◌, ℕ, ◌+◌, ◌-◌, ◌≤◌, Bool, false, not, List, [], ◌∷◌, length, map, Ok, Err, IsErr, refl, sym, ap, subst, ◌∙◌, arith}
 use Rattle.std.specs.Prelude.{Result}
 use Rattle.std.specs.List.{All}
-use Rattle.std.proofs.lemmas.Option.{slice_get_within}
 use Rattle.chv_ast.specs.declared.refusal.Refusal.{Refusal}
 use Rattle.chv_ast.specs.declared.refusal.Refusal.TheVariants.{LimitPassed}
 use Rattle.chv_ast.specs.declared.statement.Insert.{Insert}
@@ -10,7 +9,7 @@ use Rattle.chv_catalog.specs.Schemas.{Catalog, kinds_of}
 use Rattle.chv_catalog.specs.declared.table_def.TableDef.{TableDef}
 use Rattle.chv_commit.specs.Replays.{MAX_ENTRIES}
 use Rattle.chv_part.specs.Books.{TableForm}
-use Rattle.chv_query.specs.Plans.{Delivery, planned}
+use Rattle.chv_query.specs.Plans.{planned}
 use Rattle.chv_plan.specs.Deliveries.{DeliversAll}
 use Rattle.chv_plan.specs.declared.delivery.Delivery.{Delivery as HeldDelivery}
 use Rattle.chv_site.specs.Faults.{CountsDisk}
@@ -18,7 +17,7 @@ use Rattle.chv_site.specs.Outside.{Outside}
 use Rattle.chv_site.specs.declared.fault.Failed.{Failed}
 use Rattle.chv_site.proofs.Moments.{weakened}
 use Rattle.chv_store.specs.Calls.{HoldsSame}
-use Rattle.chv_store.specs.Stores.{IsHeldAs, IsTable, IsUsable, IsWithin, state_of}
+use Rattle.chv_store.specs.Stores.{IsHeldAs, IsTable, IsUsable, IsWithin}
 use Rattle.chv_store.specs.declared.store.Store.{Store}
 use Rattle.chv_store.proofs.EachTableLemmas.{each-def}
 use Rattle.chv_table.specs.Tables.{IsTableOf}
@@ -30,16 +29,17 @@ use Rattle.chv_types.specs.declared.kind.Kind.{Kind}
 use Rattle.chv_history.specs.Crashes.{IsLeftBy}
 use Rattle.chv_history.specs.Events.{Moment, Plan}
 use Rattle.chv_history.specs.Runs.{delivery_event, task_events, written_of}
-use Rattle.chv_history.specs.Tasks.{Bring}
+use Rattle.chv_history.specs.Tasks.{Bring, deliveries_to}
 use Rattle.chv_history.proofs.LeftLemmas.{early}
 use Rattle.chv_history.proofs.RequestLemmas.{deliveries_refused}
 use Rattle.chv_engine.specs.Answers.{Answers, IsAt, Replies, insert_wish, plan_wish}
 use Rattle.chv_engine.specs.Deliveries.{Delivers}
+use Rattle.chv_engine.specs.Rooms.{HasRooms, LacksRoom, deliveries_held}
 use Rattle.chv_engine.specs.declared.fault.RunFault.{RunFault}
 use Rattle.chv_engine.specs.declared.fault.RunFault.TheVariants.{Disk}
 use Rattle.chv_engine.proofs.AnswerLemmas.{Asks, counts_read, same_kept, same_logged}
 use Rattle.chv_engine.proofs.DoneLemmas.{Done, TellsNone, done_answers, ended_task}
-use Rattle.chv_engine.proofs.PlanLemmas.{delivers-length, delivers-table, fits, has_room-one}
+use Rattle.chv_engine.proofs.RoomLemmas.{delivers-numbered, delivers-to, has_room-all, has_room-none, held_numbered, room_entries, same_entries}
 
 -- the kinds of a table are those of its definition
 kinds_are : (number : ℕ) (def : TableDef) (table : Table) → IsTableOf number def table → table.kinds ≡ kinds_of def
@@ -64,32 +64,34 @@ insert_refused store insert refuses is entries agree = ap (λ (r : Result Plan R
 bring_tells_none : (plan : Plan) → TellsNone (Bring plan)
 bring_tells_none plan query same = cc same
 
--- the first of the deliveries that are held goes to a table that stands, and so do all
-module _ (store : Store) (held : List HeldDelivery) (plan : Plan) (delivers : DeliversAll store.schema.catalog.tables held plan) (one : (table : ℕ) × All (λ (h : HeldDelivery). h.table ≡ table) held) (first : HeldDelivery) (some : 1 ≤ length held) where
-  abbrev table : ℕ
-  table = (get_or held 0 first).table
+-- deliveries, by what is held of them
+module _ (store : Store) (held : List HeldDelivery) (plan : Plan) (delivers : DeliversAll store.schema.catalog held plan) where
+  -- they go to tables that stand
+  stands : (table : ℕ) → 1 ≤ deliveries_held table held → IsTable store table
+  stands table some =
+      let numbered = held_numbered (length store.schema.catalog.tables) held table (delivers-numbered store.schema.catalog held plan delivers) some in
+      record { first = numbered.0; last = numbered.1 }
 
-  same_tables : All (λ (d : Delivery). d.table ≡ table) plan
-  same_tables = let is : one.0 ≡ table = sym (one.1 0 first some) in subst (λ (n : ℕ). All (λ (d : Delivery). d.table ≡ n) plan) is (delivers-table store.schema.catalog.tables held plan one.0 delivers one.1)
+  held_of : (table : ℕ) → 1 ≤ deliveries_to table plan → 1 ≤ deliveries_held table held
+  held_of table some = omega (arith, some, delivers-to store.schema.catalog held plan table delivers)
 
-  pub many : length plan ≡ length held
-  many = delivers-length store.schema.catalog.tables held plan delivers
+  -- they are made where each table has room for those to it
+  pub rooms_ask : (mid : Store) → HoldsSame store mid → HasRooms held mid → Asks (plan_wish plan) store (Ok (Bring plan))
+  rooms_ask mid same rooms entries agree =
+      let room : (table : ℕ) → 1 ≤ deliveries_to table plan → entries table + deliveries_to table plan ≤ MAX_ENTRIES =
+      λ table some.
+      let there = held_of table some in
+      let is = stands table there in
+      omega (arith, agree table is.first is.last, same_entries store mid table same, delivers-to store.schema.catalog held plan table delivers, room_entries mid table (deliveries_held table held) (rooms table there)) in
+      ap (λ (b : Bool). refuse_if (not b) LimitPassed (Ok (Bring plan))) (has_room-all entries plan room)
 
-  first_stands : (held : List HeldDelivery) (plan : Plan) → DeliversAll store.schema.catalog.tables held plan → 1 ≤ length held → IsTable store (get_or held 0 first).table
-  first_stands [] plan delivers some = absurd (omega (arith, some))
-  first_stands (h ∷ held) [] delivers some = absurd delivers
-  first_stands (h ∷ held) (d ∷ plan) delivers some =
-      let below = slice_get_within store.schema.catalog.tables (d.table - 1) delivers.0.def delivers.0.stands in
-      record { first = omega (arith, delivers.0.table, delivers.0.numbered); last = omega (arith, delivers.0.table, delivers.0.numbered, below) }
-
-  pub stands : IsTable store table
-  stands = first_stands held plan delivers some
-
-  -- beside what is held there is room or not
-  pub plan_asks : (room : Bool) → room ≡ not (nat_lt MAX_ENTRIES ((state_of store table).entries + length held)) → Asks (plan_wish plan) store (refuse_if (not room) LimitPassed (Ok (Bring plan)))
-  plan_asks room is entries agree =
-      let has : fits entries table (length plan) ≡ room = ap₂ (λ (n k : ℕ). not (nat_lt MAX_ENTRIES (n + k))) (agree table stands.first stands.last) many ∙ sym is in
-      ap (λ (b : Bool). refuse_if (not b) LimitPassed (Ok (Bring plan))) (has_room-one entries table plan room (omega (arith, some, many)) same_tables has)
+  -- and refused where one has none
+  pub lacks_ask : LacksRoom held store → Asks (plan_wish plan) store (Err LimitPassed)
+  lacks_ask lacks entries agree =
+      let many = delivers-to store.schema.catalog held plan lacks.table delivers in
+      let is = stands lacks.table lacks.some in
+      ap (λ (b : Bool). refuse_if (not b) LimitPassed (Ok (Bring plan)))
+      (has_room-none entries plan lacks.table (omega (arith, lacks.some, many)) (omega (arith, lacks.more, many, agree lacks.table is.first is.last)))
 
 -- a store that holds the same is at the same moment
 pub same_at : (was is : Store) (old : Outside) (before : List ℕ) (m : Moment) → HoldsSame was is → IsAt was old before m → IsAt is old before m

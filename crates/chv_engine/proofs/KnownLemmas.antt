@@ -3,6 +3,7 @@ use Rattle.std.proofs.Common.{◌≡◌, ◌≢◌, ℕ, Bool, true, false, not,
 use Rattle.std.proofs.lemmas.Bool.{false≢true}
 use Rattle.chv_ast.specs.declared.refusal.Refusal.TheVariants.{NotBuilt}
 use Rattle.chv_ast.specs.declared.statement.CreateTable.{CreateTable}
+use Rattle.chv_ast.specs.declared.statement.CreateView.{CreateView}
 use Rattle.chv_ast.specs.declared.statement.Insert.{Insert}
 use Rattle.chv_ast.specs.declared.statement.Select.{Select}
 use Rattle.chv_ast.specs.declared.statement.ShowParts.{ShowParts}
@@ -13,7 +14,7 @@ use Rattle.chv_query.specs.Accepted.{is_built_table}
 use Rattle.chv_types.specs.Steps.{refuse_if}
 use Rattle.chv_history.specs.Built.{is_built}
 use Rattle.chv_history.specs.Tasks.{built_task}
-use Rattle.chv_engine.specs.Answers.{create_wish, insert_wish, parts_wish, query_wish, statement_wish}
+use Rattle.chv_engine.specs.Answers.{create_wish, insert_wish, parts_wish, query_wish, statement_wish, view_wish}
 
 module _ (asked : Statement) (catalog : Catalog) (entries : ℕ → ℕ) where
   -- one that is not is refused
@@ -25,6 +26,9 @@ module _ (asked : Statement) (catalog : Catalog) (entries : ℕ → ℕ) where
 
   pub known_create : (made : CreateTable) → is_built asked ≡ true → asked ≡ statement.CreateTable made → create_wish made catalog entries ≡ statement_wish (Some asked) catalog entries
   known_create made built is = sym (ap (built_task catalog entries) is) ∙ sym (known_built built)
+
+  pub known_view : (made : CreateView) → is_built asked ≡ true → asked ≡ statement.CreateView made → view_wish made catalog entries ≡ statement_wish (Some asked) catalog entries
+  known_view made built is = sym (ap (built_task catalog entries) is) ∙ sym (known_built built)
 
   pub known_insert : (brought : Insert) → is_built asked ≡ true → asked ≡ statement.Insert brought → insert_wish brought catalog entries ≡ statement_wish (Some asked) catalog entries
   known_insert brought built is = sym (ap (built_task catalog entries) is) ∙ sym (known_built built)
@@ -40,14 +44,19 @@ pub built_create : (asked : Statement) (made : CreateTable) → is_built asked �
 unfolding is_built
 built_create asked made built is = sym (ap is_built is) ∙ built
 
+-- each view is built
+pub built_view : (asked : Statement) (made : CreateView) → asked ≡ statement.CreateView made → is_built asked ≡ true
+unfolding is_built
+built_view asked made is = ap is_built is
+
 -- a statement of another form is not built
-pub built_form : (asked : Statement) → is_built asked ≡ true → ((made : CreateTable) → asked ≢ statement.CreateTable made) → ((brought : Insert) → asked ≢ statement.Insert brought)
+pub built_form : (asked : Statement) → is_built asked ≡ true → ((made : CreateTable) → asked ≢ statement.CreateTable made) → ((made : CreateView) → asked ≢ statement.CreateView made) → ((brought : Insert) → asked ≢ statement.Insert brought)
     → ((query : Select) → asked ≢ statement.Query query) → ((parts : ShowParts) → asked ≢ statement.ShowParts parts) → ⊥
 unfolding is_built
-built_form (statement.CreateTable made) built create insert query parts = create made refl
-built_form (statement.Insert brought) built create insert query parts = insert brought refl
-built_form (statement.Query all) built create insert query parts = query all refl
-built_form (statement.ShowParts all) built create insert query parts = parts all refl
-built_form (statement.CreateView made) built create insert query parts = false≢true built
-built_form (statement.Optimize all) built create insert query parts = false≢true built
-built_form statement.FlushQueue built create insert query parts = false≢true built
+built_form (statement.CreateTable made) built create view insert query parts = create made refl
+built_form (statement.CreateView made) built create view insert query parts = view made refl
+built_form (statement.Insert brought) built create view insert query parts = insert brought refl
+built_form (statement.Query all) built create view insert query parts = query all refl
+built_form (statement.ShowParts all) built create view insert query parts = parts all refl
+built_form (statement.Optimize all) built create view insert query parts = false≢true built
+built_form statement.FlushQueue built create view insert query parts = false≢true built

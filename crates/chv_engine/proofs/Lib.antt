@@ -12,5 +12,7 @@ pub mod PlaceLemmas
 pub mod PlanLemmas
 pub mod PullLemmas
 pub mod ResultLemmas
+pub mod RoomLemmas
 pub mod RunLemmas
 pub mod ShownLemmas
+pub mod ViewLemmas

@@ -19,7 +19,7 @@ use Rattle.chv_history.specs.Kept.{Kept, entries_kept, kept_answer}
 use Rattle.chv_history.specs.Script.{Request}
 use Rattle.chv_history.specs.Tasks.{task_of}
 use Rattle.chv_history.proofs.KeptLemmas.{task_agrees}
-use Rattle.chv_history.proofs.LookupLemmas.{table_at}
+use Rattle.chv_history.proofs.LookupLemmas.{AreFilling, schema-filling, table_at}
 use Rattle.chv_part.specs.Books.{TableForm}
 use Rattle.chv_part.specs.Forms.{form_of}
 use Rattle.chv_part.specs.Parts.{IsWhole}
@@ -126,10 +126,11 @@ opened_kept store old new kept within opens has =
     }
 
 -- and is asked for what they have
-kept_asks : (request : Request) (store : Store) (kept : Kept) → HoldsKept store kept → request_wish request store.schema.catalog (λ other. (state_of store other).entries) ≡ kept_answer request kept
-kept_asks request store kept holds =
+kept_asks : (request : Request) (store : Store) (kept : Kept) → IsWithin store → HoldsKept store kept → request_wish request store.schema.catalog (λ other. (state_of store other).entries) ≡ kept_answer request kept
+kept_asks request store kept within holds =
+    let filling : AreFilling kept.catalog = subst AreFilling (within.defined.2 ∙ holds.catalog) (schema-filling within.defined.0 within.defined.1) in
     ap (λ (catalog : Catalog). task_of catalog (λ other. (state_of store other).entries) request.statement) holds.catalog
-    ∙ task_agrees kept.catalog (λ other. (state_of store other).entries) (entries_kept kept) request.statement (λ table first last. ap (λ (s : State). s.entries) (holds.states table first last))
+    ∙ task_agrees kept.catalog (λ other. (state_of store other).entries) (entries_kept kept) request.statement filling (λ table first last. ap (λ (s : State). s.entries) (holds.states table first last))
 
 -- live parts have numbers from 8 on
 parts_numbered : (files : Image) (table window : ℕ) (state : State) → HasCommits files table window state → All (λ (row : PartRow). 8 ≤ row.part) state.layout
@@ -172,7 +173,7 @@ opened_meets store old now new (request ∷ requests) line within opens same mee
       meets.damage,
       record {
         query = meets.query;
-        asks = kept_asks request store kept holds ∙ meets.asks;
+        asks = kept_asks request store kept within holds ∙ meets.asks;
         is = subst (λ (s : State). IsPartDamage table (form_of def) s.layout now meets.damage) (sym state)
             (damage_kept table (form_of def) (kept.states table).layout old now meets.damage numbered (λ part high. same (part_of table part) (λ none. omega (arith, high, none))) meets.is);
       },

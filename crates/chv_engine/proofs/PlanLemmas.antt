@@ -1,12 +1,8 @@
--- Deliveries that are made one after the other, and whether there is room for them where all go to one table.
-use Rattle.std.proofs.Common.{◌≡◌, ℕ, zero, suc, ◌+◌, ◌≤◌, Bool, true, false, not, ◌&&◌, cond, nat_eq, nat_lt, List, [], ◌∷◌, ◌++◌, length, map, take, drop, slice_get, Some, Ok, Err, IsErr, refl, sym, ap, ap₂, subst, ◌∙◌, arith}
+-- Deliveries that are made one after the other.
+use Rattle.std.proofs.Common.{◌≡◌, ℕ, zero, suc, ◌+◌, List, [], ◌∷◌, ◌++◌, length, map, take, drop, slice_get, Some, Ok, Err, IsErr, refl, sym, ap, ap₂, subst, ◌∙◌, arith}
 use Rattle.std.specs.Prelude.{Result}
-use Rattle.std.specs.List.{All, filter, list_all}
-use Rattle.std.proofs.lemmas.Bool.{eq-eqb}
 use Rattle.std.proofs.lemmas.List.{map-append, take-append-drop}
-use Rattle.std.proofs.lemmas.List.Elements.{All-cons, All-head, All-nil, All-tail}
-use Rattle.chv_catalog.specs.declared.table_def.TableDef.{TableDef}
-use Rattle.chv_commit.specs.Replays.{MAX_ENTRIES}
+use Rattle.chv_catalog.specs.Schemas.{Catalog}
 use Rattle.chv_query.specs.Plans.{Delivery}
 use Rattle.chv_plan.specs.Deliveries.{Delivers as IsHeldDelivery, DeliversAll}
 use Rattle.chv_plan.specs.declared.delivery.Delivery.{Delivery as HeldDelivery}
@@ -15,13 +11,12 @@ use Rattle.chv_site.specs.Images.{Image, IsLeft}
 use Rattle.chv_site.specs.Outside.{Outside}
 use Rattle.chv_site.specs.declared.fault.Failed.{Failed}
 use Rattle.chv_site.proofs.Moments.{goes_on, started, weakened}
-use Rattle.chv_store.specs.Stores.{HasRoom, IsWithin}
+use Rattle.chv_store.specs.Stores.{IsWithin}
 use Rattle.chv_store.specs.declared.store.Store.{Store}
 use Rattle.chv_history.specs.Crashes.{IsLeftBy}
 use Rattle.chv_history.specs.Events.{Event, Moment, Plan, behind, happen, written_in}
 use Rattle.chv_history.specs.Kept.{Kept, kept_delivery, kept_plan}
 use Rattle.chv_history.specs.Runs.{delivery_event, written_of}
-use Rattle.chv_history.specs.Tasks.{deliveries_to, has_room}
 use Rattle.chv_history.proofs.LeftLemmas.{behind-append, early, onward}
 use Rattle.chv_engine.specs.Answers.{HoldsKept, IsAt}
 use Rattle.chv_engine.specs.Deliveries.{Delivers}
@@ -29,52 +24,34 @@ use Rattle.chv_engine.proofs.AnswerLemmas.{moment_still}
 use Rattle.chv_engine.proofs.DeliverLemmas.{no_answer, nothing_ok}
 
 -- there are as many deliveries as are held
-pub delivers-length : (tables : List TableDef) (plan : List HeldDelivery) (all : List Delivery) → DeliversAll tables plan all → length all ≡ length plan
-delivers-length tables [] [] delivers = refl
-delivers-length tables [] (delivery ∷ all) delivers = absurd delivers
-delivers-length tables (held ∷ plan) [] delivers = absurd delivers
-delivers-length tables (held ∷ plan) (delivery ∷ all) delivers = omega (arith, delivers-length tables plan all delivers.1)
-
--- and they go to the same tables
-pub delivers-table : (tables : List TableDef) (plan : List HeldDelivery) (all : List Delivery) (table : ℕ) → DeliversAll tables plan all → All (λ (held : HeldDelivery). held.table ≡ table) plan → All (λ (d : Delivery). d.table ≡ table) all
-delivers-table tables [] [] table delivers same = All-nil (λ (d : Delivery). d.table ≡ table)
-delivers-table tables [] (delivery ∷ all) table delivers same = absurd delivers
-delivers-table tables (held ∷ plan) [] table delivers same = absurd delivers
-delivers-table tables (held ∷ plan) (delivery ∷ all) table delivers same =
-    All-cons (λ (d : Delivery). d.table ≡ table) delivery all (sym delivers.0.table ∙ All-head (λ (h : HeldDelivery). h.table ≡ table) held plan same)
-    (delivers-table tables plan all table delivers.1 (All-tail (λ (h : HeldDelivery). h.table ≡ table) held plan same))
+pub delivers-length : (catalog : Catalog) (plan : List HeldDelivery) (all : List Delivery) → DeliversAll catalog plan all → length all ≡ length plan
+delivers-length catalog [] [] delivers = refl
+delivers-length catalog [] (delivery ∷ all) delivers = absurd delivers
+delivers-length catalog (held ∷ plan) [] delivers = absurd delivers
+delivers-length catalog (held ∷ plan) (delivery ∷ all) delivers = omega (arith, delivers-length catalog plan all delivers.1)
 
 -- what is held at a place is that of the delivery there, which is the last of those up to it
-pub record DeliversAt (tables : List TableDef) (held : HeldDelivery) (place : ℕ) (all : List Delivery) : Type 0 where
+pub record DeliversAt (catalog : Catalog) (held : HeldDelivery) (place : ℕ) (all : List Delivery) : Type 0 where
   pub delivery : Delivery
-  pub delivers : IsHeldDelivery tables held delivery
+  pub delivers : IsHeldDelivery catalog held delivery
   pub next : take (place + 1) all ≡ take place all ++ delivery ∷ []
 
-pub delivers-at : (tables : List TableDef) (plan : List HeldDelivery) (all : List Delivery) (place : ℕ) (held : HeldDelivery) → DeliversAll tables plan all → slice_get plan place ≡ Some held → DeliversAt tables held place all
-delivers-at tables [] all place held delivers there = absurd (cc there)
-delivers-at tables (first ∷ plan) [] place held delivers there = absurd delivers
-delivers-at tables (first ∷ plan) (delivery ∷ all) zero held delivers there = record {
+pub delivers-at : (catalog : Catalog) (plan : List HeldDelivery) (all : List Delivery) (place : ℕ) (held : HeldDelivery) → DeliversAll catalog plan all → slice_get plan place ≡ Some held → DeliversAt catalog held place all
+delivers-at catalog [] all place held delivers there = absurd (cc there)
+delivers-at catalog (first ∷ plan) [] place held delivers there = absurd delivers
+delivers-at catalog (first ∷ plan) (delivery ∷ all) zero held delivers there = record {
   delivery = delivery;
-  delivers = let same : first ≡ held = cc there in subst (λ (h : HeldDelivery). IsHeldDelivery tables h delivery) same delivers.0;
+  delivers = let same : first ≡ held = cc there in subst (λ (h : HeldDelivery). IsHeldDelivery catalog h delivery) same delivers.0;
   next = refl;
 }
-delivers-at tables (first ∷ plan) (delivery ∷ all) (suc place) held delivers there =
-    let at = delivers-at tables plan all place held delivers.1 there in
+delivers-at catalog (first ∷ plan) (delivery ∷ all) (suc place) held delivers there =
+    let at = delivers-at catalog plan all place held delivers.1 there in
     let same : suc place + 1 ≡ suc (place + 1) = omega arith in
     record {
       delivery = at.delivery;
       delivers = at.delivers;
       next = ap (λ (n : ℕ). take n (delivery ∷ all)) same ∙ ap (λ (l : List Delivery). delivery ∷ l) at.next;
     }
-
--- a store has room for less where it has room for more
-pub room_less : (store : Store) (less more table : ℕ) → less ≤ more → HasRoom more store table → HasRoom less store table
-room_less store less more table fewer room = record {
-  is_table = room.is_table;
-  held = room.held;
-  stands = room.stands;
-  room = record { in_memory = omega (arith, fewer, room.room.in_memory); in_number = omega (arith, fewer, room.room.in_number) };
-}
 
 -- the events of some deliveries and then of others, and what is held and counted behind them
 pub behind_plan : (xs ys : Plan) (m : Moment) → behind (map delivery_event (xs ++ ys)) m ≡ behind (map delivery_event ys) (behind (map delivery_event xs) m)
@@ -170,7 +147,7 @@ delivers_early tells xs ys result was is old new err made = record {
 }
 
 -- the next delivery at a place is made, or not
-module _ (tells : Type 0) (tables : List TableDef) (held : HeldDelivery) (place : ℕ) (all : Plan) (next : DeliversAt tables held place all) (was mid is : Store) (old between new : Outside) (written : ℕ)
+module _ (tells : Type 0) (catalog : Catalog) (held : HeldDelivery) (place : ℕ) (all : Plan) (next : DeliversAt catalog held place all) (was mid is : Store) (old between new : Outside) (written : ℕ)
     (first : Delivers tells (take place all) (Ok written) was mid old between) where
   pub delivers_next : (more : ℕ) → Delivers tells (next.delivery ∷ []) (Ok more) mid is between new → Delivers tells (take (place + 1) all) (Ok (written + more)) was is old new
   delivers_next more one =
@@ -184,40 +161,3 @@ module _ (tells : Type 0) (tables : List TableDef) (held : HeldDelivery) (place 
       subst (λ (plan : Plan). Delivers tells plan ends was is old new) (sym next.next) (delivers_err tells (take place all ++ next.delivery ∷ []) (and_more written result) ends was is old new err both) in
       subst (λ (plan : Plan). Delivers tells plan ends was is old new) (take-append-drop (place + 1) all)
       (delivers_early tells (take (place + 1) all) (drop (place + 1) all) ends was is old new err some)
-
--- all deliveries go to the one table
-deliveries_to-all : (table : ℕ) (plan : Plan) → All (λ (d : Delivery). d.table ≡ table) plan → deliveries_to table plan ≡ length plan
-deliveries_to-all table [] same = refl
-deliveries_to-all table (d ∷ plan) same =
-    let first : d.table ≡ table = All-head (λ (d : Delivery). d.table ≡ table) d plan same in
-    let rest = deliveries_to-all table plan (All-tail (λ (d : Delivery). d.table ≡ table) d plan same) in
-    let kept = filter (λ (other : Delivery). nat_eq other.table table) plan in
-    ap (λ (b : Bool). length (cond b (d ∷ kept) kept)) (eq-eqb d.table table first) ∙ omega (arith, rest)
-
--- whether a table has room for so many deliveries
-abbrev pub fits : (ℕ → ℕ) → ℕ → ℕ → Bool
-fits entries table count = not (nat_lt MAX_ENTRIES (entries table + count))
-
--- what is true of each of some is true of all, where there are some
-fit_all : (entries : ℕ → ℕ) (table count : ℕ) (all plan : Plan) → deliveries_to table all ≡ count → fits entries table count ≡ true → All (λ (d : Delivery). d.table ≡ table) plan
-    → list_all (λ (d : Delivery). fits entries d.table (deliveries_to d.table all)) plan ≡ true
-fit_all entries table count all [] many room same = refl
-fit_all entries table count all (d ∷ plan) many room same =
-    let first : d.table ≡ table = All-head (λ (d : Delivery). d.table ≡ table) d plan same in
-    let rest = fit_all entries table count all plan many room (All-tail (λ (d : Delivery). d.table ≡ table) d plan same) in
-    let here : fits entries d.table (deliveries_to d.table all) ≡ true = ap (λ (n : ℕ). fits entries n (deliveries_to n all)) first ∙ ap (fits entries table) many ∙ room in
-    ap₂ (λ (a b : Bool). a && b) here rest
-
-fit_none : (entries : ℕ → ℕ) (table count : ℕ) (all plan : Plan) → 1 ≤ length plan → deliveries_to table all ≡ count → fits entries table count ≡ false → All (λ (d : Delivery). d.table ≡ table) plan
-    → list_all (λ (d : Delivery). fits entries d.table (deliveries_to d.table all)) plan ≡ false
-fit_none entries table count all [] some many full same = absurd (omega (arith, some))
-fit_none entries table count all (d ∷ plan) some many full same =
-    let first : d.table ≡ table = All-head (λ (d : Delivery). d.table ≡ table) d plan same in
-    let rest = list_all (λ (e : Delivery). fits entries e.table (deliveries_to e.table all)) plan in
-    let here : fits entries d.table (deliveries_to d.table all) ≡ false = ap (λ (n : ℕ). fits entries n (deliveries_to n all)) first ∙ ap (fits entries table) many ∙ full in
-    ap (λ (a : Bool). a && rest) here
-
--- an insert to one table has room exactly where the table has
-pub has_room-one : (entries : ℕ → ℕ) (table : ℕ) (plan : Plan) (room : Bool) → 1 ≤ length plan → All (λ (d : Delivery). d.table ≡ table) plan → fits entries table (length plan) ≡ room → has_room plan entries ≡ room
-has_room-one entries table plan true some same is = fit_all entries table (length plan) plan plan (deliveries_to-all table plan same) is same
-has_room-one entries table plan false some same is = fit_none entries table (length plan) plan plan some (deliveries_to-all table plan same) is same

@@ -3,6 +3,7 @@ use Rattle.std.specs.Prelude.{ℕ, ◌≡◌, ◌-◌, ◌<◌, ◌≤◌, List,
 use Rattle.chv_ast.specs.declared.refusal.Refusal.{Refusal}
 use Rattle.chv_ast.specs.declared.refusal.Refusal.TheVariants.{LimitPassed}
 use Rattle.chv_ast.specs.declared.statement.CreateTable.{CreateTable}
+use Rattle.chv_ast.specs.declared.statement.CreateView.{CreateView}
 use Rattle.chv_ast.specs.declared.statement.Insert.{Insert}
 use Rattle.chv_ast.specs.declared.statement.Select.{Select}
 use Rattle.chv_ast.specs.declared.statement.Statement.{Statement}
@@ -10,8 +11,10 @@ use Rattle.chv_ast.specs.declared.statement.Statement.TheVariants as statement
 use Rattle.chv_catalog.specs.Schemas.{Catalog}
 use Rattle.chv_catalog.specs.declared.table_def.TableDef.{TableDef}
 use Rattle.chv_commit.specs.declared.commit.Commit.{Commit}
-use Rattle.chv_query.specs.Accepted.{Accepted, Table, catalog_of, IsSchema, catalog_payload}
+use Rattle.chv_catalog.specs.declared.definition.Definition.TheVariants.{Table, View}
+use Rattle.chv_query.specs.Accepted.{Accepted, catalog_of, IsSchema, catalog_payload}
 use Rattle.chv_query.specs.Definitions.{defined}
+use Rattle.chv_query.specs.Views.{defined_view}
 use Rattle.chv_types.specs.Steps.{and_then, refuse_if}
 use Rattle.chv_history.specs.Crashes.{IsLeftBy}
 use Rattle.chv_history.specs.Events.{Event, Plan, Moment, behind}
@@ -136,9 +139,13 @@ pub record IsOfStore (store : Store) (query : Asked) : Type 0 where
 abbrev pub parts_wish : List ℕ → Wish
 parts_wish name catalog entries = and_then (table_of catalog name) (λ found. Ok (TellParts found.0 found.1))
 
--- a CREATE statement asks for its table
+-- a CREATE TABLE statement asks for its table
 abbrev pub create_wish : CreateTable → Wish
 create_wish made catalog entries = and_then (defined catalog made) (λ def. Ok (Make (record { statement = statement.CreateTable made; definition = Table def })))
+
+-- a CREATE MATERIALIZED VIEW statement asks for its view
+abbrev pub view_wish : CreateView → Wish
+view_wish made catalog entries = and_then (defined_view catalog made) (λ def. Ok (Make (record { statement = statement.CreateView made; definition = View def })))
 
 -- an INSERT asks for deliveries for which there is room
 abbrev pub plan_wish : Plan → Wish

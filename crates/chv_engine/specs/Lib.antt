@@ -6,5 +6,6 @@ pub mod Ends
 pub mod Faults
 pub mod Parts
 pub mod Pulls
+pub mod Rooms
 pub mod Telling
 pub mod Words

@@ -12,6 +12,7 @@ pub fn is_built(statement: &Statement) -> bool
 {
     match statement {
         Statement::CreateTable(made) => is_built_table(made),
+        Statement::CreateView(_) => true,
         Statement::Insert(brought) => !brought.settings.later,
         Statement::Query(asked) => !asked.merged,
         Statement::ShowParts(_) => true,

@@ -10,6 +10,7 @@ mod insert;
 mod order;
 mod parts;
 mod pull;
+mod room;
 mod run;
 mod say;
 mod select;

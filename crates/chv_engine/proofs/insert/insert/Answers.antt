@@ -12,6 +12,9 @@ use Rattle.chv_engine.proofs.insert.insert.Goals as goal
 pub plan_insert-requires-clause-few : goal.plan_insert-requires-clause-few
 plan_insert-requires-clause-few g c = rw c.schema.ensures (all_few c.args.store.now c.requires.usable.within)
 
+pub plan_insert-requires-clause-schema : goal.plan_insert-requires-clause-schema
+plan_insert-requires-clause-schema g c = rw c.schema.ensures c.requires.usable.within.defined
+
 pub returns-in-Ok : goal.returns-in-Ok
 returns-in-Ok g c =
     let S = g.W.Site in
@@ -19,9 +22,9 @@ returns-in-Ok g c =
     let insert = c.args.brought.now in
     let plan = c.in-Ok.ensures.planned in
     let is : planned store.schema.catalog insert ≡ Ok plan.0 = subst (λ (schema : Schema). planned schema.catalog insert ≡ Ok plan.0) c.schema.ensures plan.1 in
-    let held : DeliversAll store.schema.catalog.tables c.as_slice.result.now plan.0 =
-    subst (λ (schema : Schema). DeliversAll schema.catalog.tables c.as_slice.result.now plan.0) c.schema.ensures
-    (subst (λ (held : List HeldDelivery). DeliversAll c.schema.result.now.catalog.tables held plan.0) (sym c.as_slice.ensures) plan.2) in
+    let held : DeliversAll store.schema.catalog c.as_slice.result.now plan.0 =
+    subst (λ (schema : Schema). DeliversAll schema.catalog c.as_slice.result.now plan.0) c.schema.ensures
+    (subst (λ (held : List HeldDelivery). DeliversAll c.schema.result.now.catalog held plan.0) (sym c.as_slice.ensures) plan.2) in
     same_wish S.tells c.args.client (plan_wish plan.0) (insert_wish insert) c.bring.result store c.bring.new.store (S.outside c.args.site.now) (S.outside c.bring.new.site)
     (λ entries. insert_asks store.schema.catalog insert plan.0 entries is) (c.bring.ensures plan.0 held)
 

@@ -1,0 +1,12 @@
+-- The tables so far have room.
+use Rattle.std.proofs.Common.{ℕ, ◌<◌, ◌≤◌}
+use Rattle.chv_store.specs.Calls.{HoldsSame}
+use Rattle.chv_store.specs.Stores.{HasRoom}
+use Rattle.chv_engine.specs.Rooms.{deliveries_held}
+use Rattle.chv_engine.proofs.room.reserve_all.Given as goal
+
+abbrev pub invariant-loop-table : goal.invariant-loop-table
+invariant-loop-table l = record {
+  same : HoldsSame l.initial.store l.store;
+  rooms : (table : ℕ) → 1 ≤ table → table < l.table → 1 ≤ deliveries_held table l.plan → HasRoom (deliveries_held table l.plan) l.store table;
+}
