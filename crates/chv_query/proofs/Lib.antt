@@ -21,4 +21,5 @@ pub mod SortLemmas
 pub mod TableLemmas
 pub mod TakesLemmas
 pub mod ViewLemmas
+pub mod ViewQueryLemmas
 pub mod WholeRowLemmas
