@@ -1,16 +1,21 @@
 -- The views of a catalog that a schema defines, and the same views bound.
-use Rattle.std.proofs.Common.{◌≡◌, ◌∙◌, ◌≤◌, ◌<◌, ◌-◌, ◌+◌, ◌&&◌, ℕ, true, nat_lt, zero, suc, List, [], ◌∷◌, ◌++◌, length, get_or, take, Option, None, Some, Result, Ok, Err, slice_get, refl, sym, ap, subst, arith}
+use Rattle.std.proofs.Common.{◌≡◌, ◌∙◌, ◌≤◌, ◌<◌, ◌-◌, ◌+◌, ◌&&◌, ℕ, Bool, true, nat_lt, zero, suc, List, [], ◌∷◌, ◌++◌, length, get_or, take, Option, None, Some, Result, Ok, Err, slice_get, refl, sym, ap, subst, arith}
 use Rattle.std.specs.List.{All, list_all}
 use Rattle.std.proofs.lemmas.Bool.{and_parts, ltb-true}
-use Rattle.std.proofs.lemmas.List.Elements.{All-append, All-cons, All-head, All-nil, All-tail}
-use Rattle.std.proofs.lemmas.Option.{slice_get_within}
+use Rattle.std.proofs.lemmas.List.Elements.{All-append, All-cons, All-head, All-nil, All-tail, All-weaker}
+use Rattle.std.proofs.lemmas.Option.{slice_get-map, slice_get_within}
 use Rattle.chv_ast.specs.Formed.{WellFormed}
 use Rattle.chv_ast.specs.Words.{IsName, begins_word, is_word_byte, is_word_text}
 use Rattle.chv_ast.specs.declared.refusal.Refusal.{Refusal}
 use Rattle.chv_ast.specs.declared.statement.CreateView.{CreateView}
+use Rattle.chv_ast.specs.declared.statement.Select.{Select}
 use Rattle.chv_ast.specs.declared.statement.Statement.{Statement}
 use Rattle.chv_ast.specs.declared.statement.Statement.TheVariants as statement
-use Rattle.chv_catalog.specs.Schemas.{Catalog, no_definitions, with_definition}
+use Rattle.chv_block.proofs.FitLemmas.{rows_fit}
+use Rattle.chv_block.specs.Spellings.{AllAreOf}
+use Rattle.chv_catalog.proofs.StepLemmas.{and_then-Ok}
+use Rattle.chv_catalog.specs.Paths.{link_of, links_of, target_of}
+use Rattle.chv_catalog.specs.Schemas.{Catalog, kinds_of, no_definitions, with_definition}
 use Rattle.chv_catalog.specs.declared.definition.Definition.{Definition}
 use Rattle.chv_catalog.specs.declared.definition.Definition.TheVariants.{Table, View}
 use Rattle.chv_catalog.specs.declared.fault.StatementFault.{StatementFault}
@@ -22,8 +27,13 @@ use Rattle.chv_query.proofs.GrowthLemmas.{All-at, IsViewIn, schema-views}
 use Rattle.chv_query.proofs.ViewLemmas.{passed_view}
 use Rattle.chv_query.specs.Accepted.{Accepted, AreAccepted, Defines, catalog_of, views_in, views_of}
 use Rattle.chv_query.specs.Arrivals.{names_along}
-use Rattle.chv_query.specs.Bound.{AnswersAs}
-use Rattle.chv_query.specs.Derived.{def_at, form_at, through}
+use Rattle.chv_query.specs.Bound.{AnswersAs, TakesRow}
+use Rattle.chv_query.specs.Derived.{columns_at, def_at, divides_in, form_at, form_in, through, viewed}
+use Rattle.chv_query.specs.Outputs.{filter_of}
+use Rattle.chv_query.specs.Queries.{Asked, asked, asked_of, divides, limit_of, sorts_of}
+use Rattle.chv_query.specs.Shapes.{shape_of}
+use Rattle.chv_types.specs.Fits.{FitAll}
+use Rattle.chv_types.specs.declared.kind.Kind.{Kind}
 use Rattle.chv_types.specs.declared.value.Value.{Value}
 use Rattle.chv_plan.specs.Below.{IsBlockOf}
 use Rattle.chv_plan.specs.Bound.{AreBound, IsBound, IsCatalog}
@@ -137,3 +147,54 @@ module _ (catalog : Catalog) where
 pub derived_block : (catalog : Catalog) → IsCatalog catalog → (view : ℕ) (def : ViewDef) (rows : List (List Value)) → slice_get catalog.views view ≡ Some def → IsBlockOf (form_at catalog def.source) rows
     → IsBlockOf (form_at catalog def.target) (through catalog (Some def) rows)
 derived_block catalog is view def rows at of = ?
+
+-- no items are none
+pub none_left : {A : Type 0} (xs : List A) → length xs ≡ 0 → xs ≡ []
+none_left {A} [] none = refl
+none_left {A} (x ∷ xs) none = absurd (omega (arith, none))
+
+-- what one step answers
+ok_same : {A : Type 0} (x y : A) → ◌≡◌ {A = Result A Refusal} (Ok x) (Ok y) → x ≡ y
+ok_same {A} x y same = cc
+
+-- what is asked of a table has its definition
+asked_of-def : (table : ℕ) (def : TableDef) (select : Select) (query : Asked) → asked_of table def select ≡ Ok query → query.def ≡ def
+asked_of-def table def select query is =
+    let filter = and_then-Ok (filter_of def.columns select.filter) _ query is in
+    let shape = and_then-Ok (shape_of def.columns select) _ query filter.2 in
+    let order = and_then-Ok (sorts_of shape.0.columns select.order) _ query shape.2 in
+    let limit = and_then-Ok (limit_of select.limit) _ query order.2 in
+    cc limit.2
+
+module _ (catalog : Catalog) (is : IsCatalog catalog) (view : ℕ) (def : ViewDef) (at : slice_get catalog.views view ≡ Some def) where
+  -- a view fills the table of its link
+  pub target_is : target_of (links_of catalog.views) view ≡ def.target
+  target_is = rw (slice_get-map link_of catalog.views view, at) refl
+
+  -- what a view makes of a block of its source is one of its target
+  pub made_block : (rows made : List (List Value)) → IsBlockOf (form_at catalog def.source) rows → made ≡ through catalog (slice_get catalog.views view) rows → IsBlockOf (form_at catalog def.target) made
+  made_block rows made block h =
+      subst (IsBlockOf (form_at catalog def.target)) (sym (h ∙ ap (λ (v : Option ViewDef). through catalog v rows) at))
+      (derived_block catalog is view def rows at block)
+
+  module _ (bound : BoundView) (of : IsBound catalog def bound) where
+    -- a bound view takes rows of its source
+    pub takes_source : (rows : List (List Value)) → IsBlockOf (form_at catalog def.source) rows → All (TakesRow bound.query.query) rows
+    takes_source rows block =
+        let in_it = view_in catalog is view def at in
+        let same : in_it.query ≡ of.query = same_asked in_it.query in_it.asks in
+        let source : of.query.def ≡ in_it.source = asked_of-def def.source in_it.source def.select of.query (in_it.asks_of ∙ ap Ok same) in
+        let kinds : (form_at catalog def.source).kinds ≡ kinds_of of.query.def = ap (λ found. (form_in found).kinds) in_it.reads ∙ ap kinds_of (sym source) in
+        All-weaker (FitAll (kinds_of of.query.def)) (TakesRow bound.query.query) of.is.asks.takes rows
+        (rows_fit (kinds_of of.query.def) rows (subst (λ (k : List Kind). AllAreOf k rows) kinds block.kinds_fit))
+      where
+        same_asked : (query : Asked) → asked catalog def.select ≡ Ok query → query ≡ of.query
+        same_asked query asks = ok_same query of.query (sym asks ∙ of.asks)
+
+    -- it makes what the view makes
+    pub makes : (rows made : List (List Value)) → made ≡ viewed of.query (columns_at catalog def.target) rows → made ≡ through catalog (slice_get catalog.views view) rows
+    makes rows made h = h ∙ rw (at, of.asks) refl
+
+    -- and divides by zero where it does
+    pub divides_so : (rows : List (List Value)) (b : Bool) → divides of.query rows ≡ b → divides_in catalog (slice_get catalog.views view) rows ≡ b
+    divides_so rows b h = rw (at, of.asks) h

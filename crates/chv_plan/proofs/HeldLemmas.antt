@@ -1,17 +1,17 @@
 -- What is held of blocks, and of what is below them.
-use Rattle.std.proofs.Common.{◌≡◌, ◌∙◌, ◌≤◌, ◌+◌, ◌-◌, ◌||◌, ℕ, suc, false, not, List, [], ◌∷◌, ◌++◌, length, map, Option, Some, refl, sym, ap, ap₂, subst, arith, append_assoc}
+use Rattle.std.proofs.Common.{◌≡◌, ◌∙◌, ◌≤◌, ◌+◌, ◌-◌, ◌||◌, ℕ, Bool, suc, false, not, List, [], ◌∷◌, ◌++◌, length, map, Option, Some, refl, sym, ap, ap₂, subst, arith, append_assoc}
 use Rattle.std.specs.List.{All, filter, list_any}
 use Rattle.std.proofs.lemmas.List.{append-nil}
 use Rattle.std.proofs.lemmas.List.Elements.{All-nil, All-cons, All-head, All-tail}
 use Rattle.std.proofs.lemmas.List.Folds.{list_any-append}
 use Rattle.chv_block.specs.Spellings.{AllAreOf}
-use Rattle.chv_catalog.specs.Paths.{links_of, paths_from}
+use Rattle.chv_catalog.specs.Paths.{MAX_PATH, links_of, paths_from, paths_within}
 use Rattle.chv_catalog.specs.Schemas.{Catalog}
 use Rattle.chv_group.specs.Groups.{is_empty}
 use Rattle.chv_part.specs.Books.{TableForm}
 use Rattle.chv_part.specs.Parts.{part_file}
 use Rattle.chv_query.proofs.ArrivalLemmas.{ArrivesIn}
-use Rattle.chv_query.specs.Derived.{derived, form_at, form_in}
+use Rattle.chv_query.specs.Derived.{derived, divides_along, form_at, form_in}
 use Rattle.chv_query.specs.Plans.{AreBlocks, Delivery, block_deliveries, deliveries_of, delivery_along, divides_below, source_of}
 use Rattle.chv_sip.specs.BlockIds.{SourceKey, source_id}
 use Rattle.chv_sip.specs.declared.block_id.BlockId.{BlockId}
@@ -35,15 +35,20 @@ module _ (catalog : Catalog) (table : ℕ) where
   same_paths [] = refl
   same_paths (path ∷ paths) = ap (λ (ps : List (List ℕ)). path ∷ ps) (same_paths paths)
 
+  -- what divides below a table does so on a path from there
+  pub divides_there : (block : List (List Value)) (b : Bool) → list_any (divides_along catalog block) (paths_within MAX_PATH (links_of catalog.views) table) ≡ b → divides_below catalog table block ≡ b
+  unfolding paths_from
+  divides_there block b h = h
+
   -- what is held of a block is that of its deliveries
   pub held_block : (source : SourceKey) (block : List (List Value)) (id : BlockId) (first : Held) (below : List Held) → id ≡ source_id source
-      → IsHeld (form_at catalog table) table id block first → AreHeld catalog id [] block below (paths_from (links_of catalog.views) table)
+      → IsHeld (form_at catalog table) table id block first → AreHeld catalog id [] block below (paths_within MAX_PATH (links_of catalog.views) table)
       → HoldsAll catalog (first ∷ below) (block_deliveries catalog table source block)
+  unfolding paths_from
   held_block source block id first below named holds under =
-      let paths = paths_from (links_of catalog.views) table in
+      let paths = paths_within MAX_PATH (links_of catalog.views) table in
       let same : deliveries_behind catalog table source block [] paths ≡ map (delivery_along catalog table source block) (filter (λ (path : List ℕ). not (is_empty (derived catalog block path))) paths) =
-      ap (λ (ps : List (List ℕ)). map (delivery_along catalog table source block) (filter (λ (path : List ℕ). not (is_empty (derived catalog block path))) ps)) (same_paths paths) in
-      (
+      ap (λ (ps : List (List ℕ)). map (delivery_along catalog table source block) (filter (λ (path : List ℕ). not (is_empty (derived catalog block path))) ps)) (same_paths paths) in (
         Holds-along catalog table table source block block [] id first refl refl (sym named) holds,
         subst (HoldsAll catalog below) same (under.holds table source block refl (sym named)),
       )
@@ -54,7 +59,8 @@ module _ (catalog : Catalog) (table : ℕ) where
         → deliveries_of catalog table kinds token from (blocks ++ block ∷ []) ≡ deliveries_of catalog table kinds token from blocks ++ block_deliveries catalog table (source_of kinds token number block) block
     deliveries-more from number [] block is =
         let same : number ≡ from = omega (arith, is) in
-        rw same (append-nil (block_deliveries catalog table (source_of kinds token from block) block))
+        subst (λ (n : ℕ). deliveries_of catalog table kinds token from (block ∷ []) ≡ block_deliveries catalog table (source_of kinds token n block) block) (sym same)
+        (append-nil (block_deliveries catalog table (source_of kinds token from block) block))
     deliveries-more from number (first ∷ blocks) block is =
         let front = block_deliveries catalog table (source_of kinds token from first) first in
         ap (λ (ds : List Delivery). front ++ ds) (deliveries-more (from + 1) number blocks block (omega (arith, is)))
@@ -84,8 +90,7 @@ delivers_all catalog [] [] arrive holds = tt
 delivers_all catalog [] (delivery ∷ plan) arrive holds = holds
 delivers_all catalog (one ∷ held) [] arrive holds = holds
 delivers_all catalog (one ∷ held) (delivery ∷ plan) arrive holds =
-    let arrives = All-head (ArrivesIn catalog) delivery plan arrive in
-    (
+    let arrives = All-head (ArrivesIn catalog) delivery plan arrive in (
       record {
         def = arrives.def;
         stands = arrives.stands;

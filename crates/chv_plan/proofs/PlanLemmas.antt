@@ -52,8 +52,8 @@ module _ (catalog : Catalog) (table : ℕ) (def : TableDef) (insert : Insert) wh
   sizes_refused_for places refusal filled refused = planned_for-behind places filled ∙ rw refused refl
 
   module _ (lists : List (List Literal)) (places filled : List ℕ) (kinds : List Kind) (sizes : Sizes) (written : List (List Value)) (blocks : List (List (List Value)))
-    (checked : filled_places def.columns insert.columns ≡ Ok places) (sized : sizes_for insert.settings ≡ Ok sizes) (short : is_long insert.settings.token ≡ false) (most : length insert.rows ≤ MAX_ROWS)
-    (kinds_are : kinds ≡ kinds_of def) (filled_are : filled ≡ places) (lists_are : lists ≡ insert.rows) (read : rows_for kinds filled lists ≡ Ok written) (is : blocks ≡ blocks_of sizes (sized_rows kinds written)) where
+      (checked : filled_places def.columns insert.columns ≡ Ok places) (sized : sizes_for insert.settings ≡ Ok sizes) (short : is_long insert.settings.token ≡ false) (most : length insert.rows ≤ MAX_ROWS)
+      (kinds_are : kinds ≡ kinds_of def) (filled_are : filled ≡ places) (lists_are : lists ≡ insert.rows) (read : rows_for kinds filled lists ≡ Ok written) (is : blocks ≡ blocks_of sizes (sized_rows kinds written)) where
     -- rows that are written are brought as blocks, where no view divides by zero
     pub planned_for-blocks : planned_for catalog table def insert ≡ deliveries_for catalog table def insert.settings.token blocks
     planned_for-blocks =

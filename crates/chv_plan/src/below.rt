@@ -48,8 +48,16 @@ pub fn deliveries_below(
     }
     for view in 0..schema.views() {
         if schema.view_def(view).source == table {
-            let mut more =
-                deliveries_through(alloc, schema, views, id, room - 1, view, path, rows)?;
+            let mut more = deliveries_through(
+                alloc,
+                schema,
+                views,
+                id,
+                room - 1,
+                view,
+                path,
+                rows,
+            )?;
             deliveries.append(&mut more)?;
         }
     }

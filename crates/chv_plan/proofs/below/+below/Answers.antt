@@ -1,163 +1,99 @@
-use Rattle.std.proofs.Common.{rules, ◌≡◌, ◌≤◌, ◌<◌, ◌+◌, ◌++◌, ◌∷◌, [], false, true, length, slice_get, Some, IfOk, IfErr, ℕ, ◌-◌, ◌*◌, ◌/◌, ◌%◌, Bool, nat_eq, nat_lt, List, slice_index_or, slice_set, bit_and, bit_or, Fits, w8, w32, w64, Bor, MutBor}
+-- What is held of the paths by the next view is put behind what is held so far.
+use Rattle.std.proofs.Common.{rules, ◌≡◌, ◌∙◌, ◌≤◌, ◌<◌, ◌+◌, ◌-◌, ◌++◌, ◌∷◌, [], ℕ, List, length, ap, subst, sym, arith, length-append, true}
 use Rattle.std.specs.List.{All}
-use Rattle.chv_ast.specs.declared.refusal.Refusal.{Refusal}
-use Rattle.chv_block.specs.Spellings.{AllAreOf}
-use Rattle.chv_catalog.specs.Paths.{MAX_PATH, links_of, paths_within}
-use Rattle.chv_catalog.specs.declared.view_def.ViewDef.{ViewDef as SomeView}
-use Rattle.chv_query.specs.Derived.{divides_in, form_at, through}
-use Rattle.chv_plan.specs.Below.{AreHeld, IsBlockOf, IsHeld, Refuses, paths_through}
-use Rattle.chv_plan.specs.Bound.{AreBound, IsCatalog}
+use Rattle.std.proofs.lemmas.List.Elements.{All-append, All-cons, All-nil}
+use Rattle.std.proofs.lemmas.Result.{err_from_is_err_and}
+use Rattle.chv_catalog.specs.Paths.{MAX_PATH}
+use Rattle.chv_plan.proofs.BelowLemmas.{AreHeld-empty, IsDone, IsDone-first, IsDone-more, IsDone-refused, IsDone-skip, held_through, refused-below}
+use Rattle.chv_plan.proofs.CatalogLemmas.{AreBound-at, AreBound-length, made_block, none_left, table_within, target_is, view_in}
 use Rattle.chv_plan.proofs.below.+below.Goals as goal
+use Rattle.chv_plan.proofs.below.+below.Goals.{deliveries_below-then-view_def-table+in_ok-more+in_ok-append, deliveries_below-else-view_def-table}
 
--- src/below.rt:45:26
-pub deliveries_below-new-deliveries-requires : goal.deliveries_below-new-deliveries-requires
-deliveries_below-new-deliveries-requires t c κs = ?
-
--- src/below.rt:47:9
-pub deliveries_below-returns-then-room-eq0-clause-held :
-    goal.deliveries_below-returns-then-room-eq0-clause-held
-deliveries_below-returns-then-room-eq0-clause-held t c = ?
-
--- src/below.rt:47:9
-pub deliveries_below-returns-then-room-eq0-clause-refused :
-    goal.deliveries_below-returns-then-room-eq0-clause-refused
-deliveries_below-returns-then-room-eq0-clause-refused t c = ?
-
--- src/below.rt:49:20
-pub deliveries_below-views-view-end-requires : goal.deliveries_below-views-view-end-requires
-deliveries_below-views-view-end-requires t c = ?
-
--- src/below.rt:49:5
 pub deliveries_below-loop-view-init : goal.deliveries_below-loop-view-init
-deliveries_below-loop-view-init t c = ?
+deliveries_below-loop-view-init t c =
+    IsDone-first c.args.schema.now.catalog c.args.id c.args.path.now c.args.rows.now c.args.room c.args.table c.new-deliveries.result.items (omega (arith, c.if-room-eq0.false)) c.new-deliveries.ensures.items
 
--- src/below.rt:50:12
-pub deliveries_below-view_def-requires : goal.deliveries_below-view_def-requires
-deliveries_below-view_def-requires t c = ?
+pub deliveries_below-returns-in_err-more-clause-refused : goal.deliveries_below-returns-in_err-more-clause-refused
+deliveries_below-returns-in_err-more-clause-refused t c =
+    let p = err_from_is_err_and c.from_residual.result c.from_residual.ensures.1 in
+    rw p.1 (λ refusal is.
+    let refused = c.in_err-more.ensures.refused refusal (sym p.2 ∙ is) in (
+      refused.0,
+      IsDone-refused c.args.schema.now.catalog c.args.id c.args.path.now c.args.rows.now c.args.room c.args.table c.loop-view.view (c.loop-view.view + 1) c.view_def.result.now c.view_def.ensures (omega arith)
+          c.loop-view.deliveries.items c.loop-view.invariant c.if-view_def-table.true refused.1,
+    ))
 
--- src/below.rt:52:62
-pub deliveries_below-overflow_sub-room : goal.deliveries_below-overflow_sub-room
-deliveries_below-overflow_sub-room t c = ?
-
--- src/below.rt:52:17
-pub deliveries_below-deliveries_through-requires :
-    goal.deliveries_below-deliveries_through-requires
-deliveries_below-deliveries_through-requires t c = ?
-
--- src/below.rt:52:17
-pub deliveries_below-branch-more-requires : goal.deliveries_below-branch-more-requires
-deliveries_below-branch-more-requires t c κs = ?
-
--- src/below.rt:52:17
-pub deliveries_below-from_residual-requires : goal.deliveries_below-from_residual-requires
-deliveries_below-from_residual-requires t c κs = ?
-
--- src/below.rt:45:9
-pub deliveries_below-drop-deliveries-requires : goal.deliveries_below-drop-deliveries-requires
-deliveries_below-drop-deliveries-requires t c κs = ?
-
--- src/below.rt:52:17
-pub deliveries_below-returns-in_err-more-clause-held :
-    goal.deliveries_below-returns-in_err-more-clause-held
-deliveries_below-returns-in_err-more-clause-held t c = ?
-
--- src/below.rt:52:17
-pub deliveries_below-returns-in_err-more-clause-refused :
-    goal.deliveries_below-returns-in_err-more-clause-refused
-deliveries_below-returns-in_err-more-clause-refused t c = ?
-
--- src/below.rt:53:13
-pub deliveries_below-append-requires : goal.deliveries_below-append-requires
-deliveries_below-append-requires t c κs = ?
-
--- src/below.rt:53:13
-pub deliveries_below-branch-append-requires : goal.deliveries_below-branch-append-requires
-deliveries_below-branch-append-requires t c κs = ?
-
--- src/below.rt:53:13
-pub deliveries_below-from_residual-requires-in_err-append :
-    goal.deliveries_below-from_residual-requires-in_err-append
-deliveries_below-from_residual-requires-in_err-append t c κs = ?
-
--- src/below.rt:51:17
-pub deliveries_below-drop-more-requires : goal.deliveries_below-drop-more-requires
-deliveries_below-drop-more-requires t c κs = ?
-
--- src/below.rt:45:9
-pub deliveries_below-drop-deliveries-requires-in_err-append :
-    goal.deliveries_below-drop-deliveries-requires-in_err-append
-deliveries_below-drop-deliveries-requires-in_err-append t c κs = ?
-
--- src/below.rt:53:13
-pub deliveries_below-returns-in_err-append-clause-held :
-    goal.deliveries_below-returns-in_err-append-clause-held
-deliveries_below-returns-in_err-append-clause-held t c = ?
-
--- src/below.rt:53:13
-pub deliveries_below-returns-in_err-append-clause-refused :
-    goal.deliveries_below-returns-in_err-append-clause-refused
-deliveries_below-returns-in_err-append-clause-refused t c = ?
-
--- src/below.rt:51:17
-pub deliveries_below-drop-more-requires-then-view_def-table :
-    goal.deliveries_below-drop-more-requires-then-view_def-table
-deliveries_below-drop-more-requires-then-view_def-table t c κs = ?
-
--- src/below.rt:49:5
-pub deliveries_below-loop-view-smaller : goal.deliveries_below-loop-view-smaller
-deliveries_below-loop-view-smaller t c = ?
-
--- src/below.rt:49:5
 pub deliveries_below-loop-view-preserved : goal.deliveries_below-loop-view-preserved
-deliveries_below-loop-view-preserved t c = ?
+deliveries_below-loop-view-preserved t c =
+    elim c.if-view_def-table.branch [
+      | deliveries_below-then-view_def-table+in_ok-more+in_ok-append w ↦
+          IsDone-more c.args.schema.now.catalog c.args.id c.args.path.now c.args.rows.now c.args.room c.args.table c.loop-view.view (c.loop-view.view + 1) c.view_def.result.now c.view_def.ensures (omega arith)
+          c.loop-view.deliveries.items w.in_ok-more.more.items c.if-view_def-table.deliveries.items c.loop-view.invariant w.if-view_def-table.true w.in_ok-more.ensures.held (search rules)
+      | deliveries_below-else-view_def-table w ↦
+          subst (λ deliveries. IsDone c.args.schema.now.catalog c.args.id c.args.path.now c.args.rows.now c.args.room c.args.table (c.loop-view.view + 1) deliveries.items) (sym w.deliveries-is)
+          (IsDone-skip c.args.schema.now.catalog c.args.id c.args.path.now c.args.rows.now c.args.room c.args.table c.loop-view.view (c.loop-view.view + 1) c.view_def.result.now c.view_def.ensures (omega arith)
+          c.loop-view.deliveries.items c.loop-view.invariant w.if-view_def-table.false)
+    ]
 
--- src/below.rt:26:1
-pub deliveries_below-returns-clause-held : goal.deliveries_below-returns-clause-held
-deliveries_below-returns-clause-held t c = ?
+pub deliveries_through-returns-then-len-eq0-clause-held : goal.deliveries_through-returns-then-len-eq0-clause-held
+deliveries_through-returns-then-len-eq0-clause-held t c =
+    rw c.new.ensures.items
+    (AreHeld-empty c.args.schema.now.catalog c.args.id c.args.path.now c.args.rows.now c.args.view c.in_ok-made.made c.in_ok-made.ensures.made c.args.room
+    (none_left c.in_ok-made.made (sym c.len.ensures ∙ c.if-len-eq0.true)) c.in_ok-made.ensures.sound)
 
--- src/below.rt:26:1
-pub deliveries_below-returns-clause-refused : goal.deliveries_below-returns-clause-refused
-deliveries_below-returns-clause-refused t c = ?
+pub deliveries_through-deliveries_below-requires : goal.deliveries_through-deliveries_below-requires
+deliveries_through-deliveries_below-requires t c =
+    let catalog = c.args.schema.now.catalog in
+    let path = c.args.path.now in
+    let Within = λ (view : ℕ). view < length catalog.views in
+    let longer : c.deref.result.now ≡ path ++ c.args.view ∷ [] = c.deref.ensures.value ∙ c.in_ok-path.ensures in
+    let more : length c.deref.result.now ≡ length path + 1 = ap length longer ∙ length-append path (c.args.view ∷ []) in
+    let there = subst (All Within) (sym longer) (All-append Within path (c.args.view ∷ []) c.requires.there (All-cons Within c.args.view [] c.requires.last (All-nil Within))) in
+    let block =
+    made_block catalog c.requires.schema c.args.view c.view_def.result.now c.view_def.ensures c.args.rows.now c.in_ok-made.made (c.requires.rows c.view_def.result.now c.view_def.ensures) c.in_ok-made.ensures.made in
+    (search rules, (c.requires.schema, (c.requires.bound, (there, (omega (arith, more, c.requires.short), block)))))
 
--- src/below.rt:82:9
-pub deliveries_through-returns-then-len-eq0-clause-held :
-    goal.deliveries_through-returns-then-len-eq0-clause-held
-deliveries_through-returns-then-len-eq0-clause-held t c = ?
+pub deliveries_through-returns-in_err-below-clause-refused : goal.deliveries_through-returns-in_err-below-clause-refused
+deliveries_through-returns-in_err-below-clause-refused t c =
+    let catalog = c.args.schema.now.catalog in
+    let p = err_from_is_err_and c.from_residual-in_err-below.result c.from_residual-in_err-below.ensures.1 in
+    rw p.1 (λ refusal is.
+    let refused = c.in_err-below.ensures.refused refusal (sym p.2 ∙ is) in (
+      refused.0,
+      refused-below catalog c.args.id c.args.path.now c.args.rows.now c.args.view c.in_ok-made.made c.in_ok-made.ensures.made c.args.room c.in_ok-made.ensures.sound
+          (rw (target_is catalog c.requires.schema c.args.view c.view_def.result.now c.view_def.ensures) refused.1),
+    ))
 
--- src/below.rt:87:17
-pub deliveries_through-deliveries_below-requires :
-    goal.deliveries_through-deliveries_below-requires
-deliveries_through-deliveries_below-requires t c = ?
-
--- src/below.rt:87:17
-pub deliveries_through-returns-in_err-below-clause-refused :
-    goal.deliveries_through-returns-in_err-below-clause-refused
-deliveries_through-returns-in_err-below-clause-refused t c = ?
-
--- src/below.rt:89:52
 pub deliveries_through-bounds-views-view : goal.deliveries_through-bounds-views-view
-deliveries_through-bounds-views-view t c = ?
+deliveries_through-bounds-views-view t c =
+    let catalog = c.args.schema.now.catalog in
+    omega (arith, c.requires.last, AreBound-length catalog catalog.views c.args.views.now c.requires.bound)
 
--- src/below.rt:89:17
-pub deliveries_through-delivery_to-requires-clause-first :
-    goal.deliveries_through-delivery_to-requires-clause-first
-deliveries_through-delivery_to-requires-clause-first t c = ?
+pub deliveries_through-delivery_to-requires-clause-first : goal.deliveries_through-delivery_to-requires-clause-first
+deliveries_through-delivery_to-requires-clause-first t c = (view_in c.args.schema.now.catalog c.requires.schema c.args.view c.view_def.result.now c.view_def.ensures).target_numbered
 
--- src/below.rt:89:17
-pub deliveries_through-delivery_to-requires-clause-last :
-    goal.deliveries_through-delivery_to-requires-clause-last
-deliveries_through-delivery_to-requires-clause-last t c = ?
+pub deliveries_through-delivery_to-requires-clause-last : goal.deliveries_through-delivery_to-requires-clause-last
+deliveries_through-delivery_to-requires-clause-last t c =
+    let catalog = c.args.schema.now.catalog in
+    let view = view_in catalog c.requires.schema c.args.view c.view_def.result.now c.view_def.ensures in
+    table_within catalog c.view_def.result.now.target view.target view.target_numbered view.writes
 
--- src/below.rt:89:17
-pub deliveries_through-delivery_to-requires-clause-kinds :
-    goal.deliveries_through-delivery_to-requires-clause-kinds
-deliveries_through-delivery_to-requires-clause-kinds t c = ?
+pub deliveries_through-delivery_to-requires-clause-kinds : goal.deliveries_through-delivery_to-requires-clause-kinds
+deliveries_through-delivery_to-requires-clause-kinds t c =
+    let catalog = c.args.schema.now.catalog in
+    (AreBound-at catalog catalog.views c.args.views.now c.args.view c.view_def.result.now c.index-views-view.result c.requires.bound c.view_def.ensures).kinds
 
--- src/below.rt:89:17
-pub deliveries_through-delivery_to-requires-clause-rows :
-    goal.deliveries_through-delivery_to-requires-clause-rows
-deliveries_through-delivery_to-requires-clause-rows t c = ?
+pub deliveries_through-delivery_to-requires-clause-rows : goal.deliveries_through-delivery_to-requires-clause-rows
+deliveries_through-delivery_to-requires-clause-rows t c =
+    let catalog = c.args.schema.now.catalog in
+    let bound = AreBound-at catalog catalog.views c.args.views.now c.args.view c.view_def.result.now c.index-views-view.result c.requires.bound c.view_def.ensures in
+    rw bound.kinds
+    (made_block catalog c.requires.schema c.args.view c.view_def.result.now c.view_def.ensures c.args.rows.now c.in_ok-made.made (c.requires.rows c.view_def.result.now c.view_def.ensures) c.in_ok-made.ensures.made).kinds_fit
 
--- src/below.rt:60:1
 pub deliveries_through-returns-clause-held : goal.deliveries_through-returns-clause-held
-deliveries_through-returns-clause-held t c = ?
+deliveries_through-returns-clause-held t c =
+    let catalog = c.args.schema.now.catalog in
+    held_through catalog c.args.id c.args.path.now c.args.rows.now c.args.view c.in_ok-made.made c.in_ok-made.ensures.made c.args.room c.view_def.result.now.target c.deref.result.now c.deref-2.result.now c.id_along-id.result
+    c.in_ok-first.first c.in_ok-below.below.items c.in_ok-put_first.field-0.items
+    (omega (arith, c.len.ensures, c.if-len-eq0.false)) c.in_ok-made.ensures.sound (target_is catalog c.requires.schema c.args.view c.view_def.result.now c.view_def.ensures)
+    (c.deref.ensures.value ∙ c.in_ok-path.ensures) (c.deref-2.ensures.value ∙ c.in_ok-path.ensures) c.id_along-id.ensures c.in_ok-below.ensures.held c.in_ok-first.ensures c.in_ok-put_first.ensures

@@ -19,5 +19,5 @@ pub returns-in_err-query-clause-refused : goal.returns-in_err-query-clause-refus
 returns-in_err-query-clause-refused c =
     let catalog = c.args.schema.now.catalog in
     let view = view_in catalog c.requires.schema c.args.view c.view_def-def.result.now c.view_def-def.ensures in
-    let p = err_from_is_err_and c.from_residual-in_err-query.result c.from_residual-in_err-query.ensures.1 in
-    rw p.1 (sym p.2 ∙ not_refused (IsViewQuery c.table_def-target.result.now.columns) (asked catalog c.view_def-def.result.now.select) view.query _ view.asks c.in_err-query.ensures)
+    let p = err_from_is_err_and c.from_residual.result c.from_residual.ensures.1 in
+    rw p.1 (p.2 ∙ not_refused (IsViewQuery c.table_def-target.result.now.columns) (asked catalog c.view_def-def.result.now.select) view.query _ view.asks c.in_err-query.ensures)
