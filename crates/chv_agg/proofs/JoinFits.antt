@@ -47,7 +47,7 @@ put_member-length x (y ∷ ys) =
     by_order-has (λ (l : List Value). length l ≤ suc (length (y ∷ ys))) (value_cmp x y) (x ∷ (y ∷ ys)) (y ∷ ys) (y ∷ put_member value_cmp x ys)
     (omega arith) (omega arith) (omega (arith, more))
 
-members-length : (xs : List Value) → length (members value_cmp xs) ≤ length xs
+pub members-length : (xs : List Value) → length (members value_cmp xs) ≤ length xs
 members-length [] = omega arith
 members-length (x ∷ xs) = omega (arith, put_member-length x (members value_cmp xs), members-length xs)
 
@@ -81,7 +81,7 @@ set_size-sum : (signed : Bool) → set_size (if signed then SumI (pos 0) else Su
 set_size-sum false = refl
 set_size-sum true = refl
 
-set_size-unit : (agg : AggName) (arg : Scalar) → set_size (unit_of agg arg) ≡ 0
+pub set_size-unit : (agg : AggName) (arg : Scalar) → set_size (unit_of agg arg) ≡ 0
 set_size-unit agg.Sum arg = set_size-sum (is_signed arg)
 set_size-unit agg arg = refl
 
@@ -109,7 +109,7 @@ join-fits agg.UniqExact arg (Uniq a) b h k small = absurd k
 join-fits agg arg a b h k small = absurd h
 
 -- a set in bytes has no more values than there are bytes
-size_bytes : (arg : Scalar) (state : AnyAgg) (agg : AggName) → FitsState agg arg state → set_size state ≤ length (state_bytes arg state)
+pub size_bytes : (arg : Scalar) (state : AnyAgg) (agg : AggName) → FitsState agg arg state → set_size state ≤ length (state_bytes arg state)
 unfolding state_bytes
 size_bytes arg (Uniq values) agg.UniqExact h =
     omega (arith, some_bytes_each arg values h.0, length-append (to_le_bytes w64 (length values)) (values_spelling arg values))
@@ -126,11 +126,11 @@ set_size-whole agg arg bytes (Some (state, [])) is =
     omega (arith, long, size_bytes arg state agg e.0)
 set_size-whole agg arg bytes (Some (state, byte ∷ rest)) is = omega (arith, set_size-unit agg arg)
 
-set_size-state_in : (agg : AggName) (arg : Scalar) (bytes : List ℕ) → set_size (state_in agg arg bytes) ≤ length bytes
+pub set_size-state_in : (agg : AggName) (arg : Scalar) (bytes : List ℕ) → set_size (state_in agg arg bytes) ≤ length bytes
 set_size-state_in agg arg bytes = set_size-whole agg arg bytes (state_front agg arg bytes) refl
 
 -- a joint set has no more values than both
-set_size-join : (a b : AnyAgg) → set_size (join a b) ≤ set_size a + set_size b
+pub set_size-join : (a b : AnyAgg) → set_size (join a b) ≤ set_size a + set_size b
 unfolding join
 set_size-join (Uniq a) (Uniq b) = omega (arith, members-length (a ++ b), length-append a b)
 set_size-join a (Count n) = omega arith

@@ -9,7 +9,7 @@ use Rattle.chv_types.specs.declared.value.Value.{Value}
 use Rattle.chv_types.specs.declared.value.Value.TheVariants.{Whole, Truth, Text, State}
 use Rattle.chv_block.specs.Spellings.{IsOf, AreOf, AllAreOf}
 
-value_fits : (of : Kind) (value : Value) → IsOf of value → Fits of value
+pub value_fits : (of : Kind) (value : Value) → IsOf of value → Fits of value
 value_fits (kind.Plain plain) value is = is
 value_fits (kind.State agg arg) (Whole n) is = absurd is
 value_fits (kind.State agg arg) (Truth truth) is = absurd is

@@ -1,16 +1,18 @@
 // The checks of a definition, in order.
 ghost use Rattle.std.specs.Prelude.{◌≡◌, ◌≤◌, length, is_some, Ok, Err, OnOk, IfOk, IfErr};
 ghost use Rattle.chv_ast.specs.declared.refusal.Refusal.{Refusal};
-ghost use Rattle.chv_define.specs.Checks.{checked_key, checked_names, checked_text};
+ghost use Rattle.chv_define.specs.Checks.{checked_free, checked_key, checked_names, checked_text};
 ghost use Rattle.chv_query.specs.Definitions as spec;
 ghost use Rattle.chv_types.specs.Names.{place_of};
 ghost use Rattle.chv_types.specs.Steps.{refuse_if};
 
-use chv_ast::{ColumnDefs, CreateTable, Digits, EngineWord, Name, Names, Refusal};
+use chv_ast::{
+    ColumnDefs, CreateTable, CreateView, Digits, EngineWord, Name, Names, Refusal, Statement,
+};
 use chv_catalog::{
     Schema, StatementFault, has_repeat, has_unknown, is_state, number_within, place,
 };
-use chv_print::table_text;
+use chv_print::{table_text, view_text};
 use chv_types::{Column, Columns};
 use std::alloc::Global;
 
@@ -23,11 +25,23 @@ const MAX_WINDOW: u64 = 100_000;
 /// The most bytes of a definition's canonical text.
 const MAX_TEXT: usize = 1_048_576;
 
-// A check that refuses where something is bad.
-fn refuse_if(bad: bool, refusal: Refusal) -> Result<(), Refusal>
+/// A check that refuses where something is bad.
+pub fn refuse_if(bad: bool, refusal: Refusal) -> Result<(), Refusal>
     ensures { result ≡ refuse_if bad refusal (Ok tt) }
 {
     if bad { Err(refusal) } else { Ok(()) }
+}
+
+/// The name is free, and there is room for a definition.
+#[tactic(auto, unfolding(crate::specs::Checks::checked_free))]
+pub fn check_free(schema: &Schema, name: &Name) -> Result<(), Refusal>
+    ensures { result ≡ checked_free schema.now.catalog name.now }
+{
+    refuse_if(schema.taken(name.as_slice()), Refusal::NameTaken)?;
+    refuse_if(
+        schema.definitions() >= MAX_DEFINITIONS,
+        Refusal::LimitPassed,
+    )
 }
 
 /// The name is free, there is room for a definition, and there are 64 columns at most, whose names differ.
@@ -36,11 +50,7 @@ pub fn check_names(schema: &Schema, name: &Name, columns: &ColumnDefs) -> Result
     ensures checked { result ≡ checked_names schema.now.catalog name.now columns.now }
     ensures few { IfOk result (λ _. length columns.now ≤ 64) }
 {
-    refuse_if(schema.taken(name.as_slice()), Refusal::NameTaken)?;
-    refuse_if(
-        schema.definitions() >= MAX_DEFINITIONS,
-        Refusal::LimitPassed,
-    )?;
+    check_free(schema, name)?;
     refuse_if(columns.len() > MAX_COLUMNS, Refusal::LimitPassed)?;
     refuse_if(has_repeat(columns.as_slice()), Refusal::NameTaken)
 }
@@ -66,13 +76,26 @@ pub fn check_key(
     )
 }
 
-/// The canonical text is 1,048,576 bytes long at most.
+/// The canonical text of a table is 1,048,576 bytes long at most.
 #[tactic(auto, unfolding(crate::specs::Checks::checked_text))]
 pub fn check_text(alloc: Global, made: &CreateTable) -> Result<(), StatementFault>
-    ensures short { OnOk result (checked_text made.now ≡ Ok tt) }
-    ensures long { IfErr result (λ fault. (refusal : Refusal) → fault ≡ StatementFault.Refused refusal → checked_text made.now ≡ Err refusal) }
+    ensures short { OnOk result (checked_text (Statement.CreateTable made.now) ≡ Ok tt) }
+    ensures long { IfErr result (λ fault. (refusal : Refusal) → fault ≡ StatementFault.Refused refusal → checked_text (Statement.CreateTable made.now) ≡ Err refusal) }
 {
     let text = table_text(alloc, made)?;
+    if text.len() > MAX_TEXT {
+        return Err(StatementFault::Refused(Refusal::LimitPassed));
+    }
+    Ok(())
+}
+
+/// The canonical text of a view is 1,048,576 bytes long at most.
+#[tactic(auto, unfolding(crate::specs::Checks::checked_text))]
+pub fn check_view_text(alloc: Global, made: &CreateView) -> Result<(), StatementFault>
+    ensures short { OnOk result (checked_text (Statement.CreateView made.now) ≡ Ok tt) }
+    ensures long { IfErr result (λ fault. (refusal : Refusal) → fault ≡ StatementFault.Refused refusal → checked_text (Statement.CreateView made.now) ≡ Err refusal) }
+{
+    let text = view_text(alloc, made)?;
     if text.len() > MAX_TEXT {
         return Err(StatementFault::Refused(Refusal::LimitPassed));
     }

@@ -4,7 +4,10 @@
 mod built;
 mod checks;
 mod kinds;
+mod outputs;
 mod table;
+mod view;
 
 pub use built::is_built_table;
 pub use table::define;
+pub use view::define_view;

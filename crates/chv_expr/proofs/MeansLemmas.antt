@@ -63,10 +63,10 @@ class_of-text (kind.State agg arg) e = absurd (cc)
 fits-truth : (k : Kind) (value : Option Value) → class_of k ≡ Some class.Truth → IfSome value (Fits k) → IsPlainly scalar.Bool value
 fits-truth k value e f = subst (λ j. IfSome value (Fits j)) (class_of-truth k e) f
 
-fits-text : (k : Kind) (value : Option Value) → class_of k ≡ Some class.Text → IfSome value (Fits k) → IsPlainly scalar.Text value
+pub fits-text : (k : Kind) (value : Option Value) → class_of k ≡ Some class.Text → IfSome value (Fits k) → IsPlainly scalar.Text value
 fits-text k value e f = subst (λ j. IfSome value (Fits j)) (class_of-text k e) f
 
-fits-unary_value : (op : UnaryOp) (c : Option Class) (plain : Scalar) (a : Option Value)
+pub fits-unary_value : (op : UnaryOp) (c : Option Class) (plain : Scalar) (a : Option Value)
     → option_and_then (unary_kind op) c ≡ Some plain → IsPlainly plain (unary_value op a)
 fits-unary_value op None plain a e = absurd (cc)
 fits-unary_value unary.Minus (Some (class.Number signed)) plain a e =
@@ -140,7 +140,7 @@ fits-binary_classes binary.Minus a b k plain x y e g f = fits-difference (number
 fits-binary_classes binary.Times a b k plain x y e g f = fits-numbers sum.Times (numbers a b) plain x y e
 fits-binary_classes binary.Modulo a b k plain x y e g f = fits-numbers sum.Remainder (numbers a b) plain x y e
 
-fits-binary_value : (op : BinaryOp) (j k : Kind) (plain : Scalar) (x y : Option Value)
+pub fits-binary_value : (op : BinaryOp) (j k : Kind) (plain : Scalar) (x y : Option Value)
     → of_kinds (binary_kind op) j k ≡ Some plain → IfSome y (Fits k) → IsPlainly plain (binary_value op (is_signed plain) x y)
 fits-binary_value op j k plain x y e f =
     let both = both_classes (binary_kind op) (class_of j) (class_of k) plain e in
@@ -169,7 +169,7 @@ fits-chosen_classes (class.Number c) other j k plain t x y e g h f i = absurd (c
 fits-chosen_classes class.Truth other j k plain t x y e g h f i = absurd (cc)
 fits-chosen_classes class.Text other j k plain t x y e g h f i = absurd (cc)
 
-fits-chosen_value : (j k : Kind) (plain : Scalar) (t x y : Option Value)
+pub fits-chosen_value : (j k : Kind) (plain : Scalar) (t x y : Option Value)
     → of_kinds joined j k ≡ Some plain → IfSome x (Fits j) → IfSome y (Fits k) → IsPlainly plain (chosen_value plain (choice t x y))
 fits-chosen_value j k plain t x y e f g =
     let both = both_classes joined (class_of j) (class_of k) plain e in

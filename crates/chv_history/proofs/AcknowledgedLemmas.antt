@@ -18,15 +18,16 @@ use Rattle.chv_history.specs.Acknowledged.{IsAcknowledged, IsDelivered, IsHeld}
 use Rattle.chv_history.specs.Crashes.{text_of, says_next}
 use Rattle.chv_history.specs.Events.{Event, Created, Committed, Replied, Plan, Moment, behind, happen, with_commit, written_in}
 use Rattle.chv_history.specs.Histories.{History, book_of, ids_in, window_at, with_accepted}
-use Rattle.chv_history.specs.Runs.{answer_events, delivered, delivery_event, entries_in, insert_events, run_events, task_events, written_of}
+use Rattle.chv_history.specs.Runs.{answer_events, delivered, delivery_event, entries_in, insert_events, request_events, run_events, task_events, written_of}
 use Rattle.chv_history.specs.Script.{Request}
 use Rattle.chv_history.specs.Tasks.{Task, Bring, Make, TellParts, TellRows, task_of}
 use Rattle.chv_history.specs.Told.{parts_text, query_text, table_rows}
-use Rattle.chv_history.proofs.ArrivingLemmas.{among_all, put_at-other}
+use Rattle.chv_history.proofs.ArrivingLemmas.{among_all, with_none-other}
 use Rattle.chv_history.proofs.CommitLemmas.{arrivals-other, arrivals-with_arrivals, arrivals-with_commit, is_skipped, schema-with_commit, with_commit-new, with_commit-skipped}
-use Rattle.chv_history.proofs.LookupLemmas.{planned-within}
+use Rattle.chv_history.proofs.FillingLemmas.{Filling, filling_request}
+use Rattle.chv_history.proofs.LookupLemmas.{AreFilling, planned-within}
 use Rattle.chv_history.proofs.TaskLemmas.{task_holds}
-use Rattle.chv_history.proofs.WhileLemmas.{While, while_behind, while_last, while_run, while-append}
+use Rattle.chv_history.proofs.WhileLemmas.{While, while_behind, while_both, while_last, while_run, while-append}
 
 -- lists with equal firsts and rests
 first_same : (x y : Event) (xs ys : List Event) → x ∷ xs ≡ y ∷ ys → x ≡ y
@@ -121,7 +122,7 @@ arrived_behind table n arrivals history id is = elim (cases_eq n table) as (λ _
   | inr other ↦ subst (λ (l : List Arrival). Contains (ids_in l) id) (sym (arrivals-other table n arrivals history other)) is
 ]
 
--- a delivery stays delivered as a table is made
+-- a delivery stays delivered as a table or a view is made
 delivered_created : (accepted : Accepted) (history : History) (d : Delivery) → IsDelivered history d → IsDelivered (with_accepted accepted history) d
 delivered_created accepted history d is =
     let more = ap length (tables_of-push history.schema accepted) ∙ length-append (tables_of history.schema) (tables_in accepted.definition) in
@@ -129,7 +130,7 @@ delivered_created accepted history d is =
       counted = is.counted;
       stands = omega (arith, is.stands, more);
       id = subst (λ (l : List Arrival). Contains (ids_in l) d.entry.id)
-          (sym (put_at-other (length (tables_of history.schema) + 1) d.table [] history.arrivals (λ same. absurd (omega (arith, same, is.stands))))) is.id;
+          (sym (with_none-other accepted.definition (length (tables_of history.schema) + 1) d.table history.arrivals (λ same. absurd (omega (arith, same, is.stands))))) is.id;
     }
 
 -- and as blocks arrive
@@ -233,22 +234,28 @@ holding_answer client (Err refuses) done m known held = holding_reply (refused_l
 planned_known : (plans : Result Plan Refusal) (plan : Plan) (P : Plan → Type 0) → IfOk plans P → plans ≡ Ok plan → P plan
 planned_known plans plan P holds same = subst (λ (r : Result Plan Refusal). IfOk r P) same holds
 
-pub known_task : (asked : Option Statement) (history : History) → IfOk (task_of (catalog_of history.schema) (entries_in history) asked) (TaskKnown history)
-known_task asked history =
-    task_holds (catalog_of history.schema) (entries_in history) (TaskKnown history) (λ select query asks. tt) (λ table def. tt) asked (λ made is def built defines. tt)
-    (λ brought is plan brings room. planned_known (planned (catalog_of history.schema) brought) plan (All (IsKnown history)) (planned-within (catalog_of history.schema) brought) brings)
+pub known_task : (asked : Option Statement) (history : History) → AreFilling (catalog_of history.schema) → IfOk (task_of (catalog_of history.schema) (entries_in history) asked) (TaskKnown history)
+known_task asked history filling =
+    task_holds (catalog_of history.schema) (entries_in history) (TaskKnown history) (λ select query asks. tt) (λ table def. tt) asked (λ accepted is built defines. tt)
+    (λ brought is plan brings room. planned_known (planned (catalog_of history.schema) brought) plan (All (IsKnown history)) (planned-within (catalog_of history.schema) filling brought) brings)
 
--- while requests are answered the history holds what is acknowledged
-pub holding_run : (requests : List Request) (m : Moment) → Holding m → While Held [] (run_events requests m) m
-holding_run requests m held =
-    while_run Held (λ (request : Request). Unit {0})
-    (λ request done n asks holds.
-    holding_answer request.client (task_of (catalog_of n.history.schema) (entries_in n.history) request.statement) done n (known_task request.statement n.history) holds)
-    requests [] m (λ k d within. tt) held
+abbrev pub FillingHeld : List Event → Moment → Type 0
+FillingHeld done m = Filling done m × Held done m
+
+-- while a request is answered the history holds what is acknowledged
+pub holding_request : (request : Request) (done : List Event) (m : Moment) → FillingHeld done m → While FillingHeld done (request_events request m.history) m
+holding_request request done m both =
+    while_both Filling Held (request_events request m.history) done m (filling_request request done m both.0)
+    (holding_answer request.client (task_of (catalog_of m.history.schema) (entries_in m.history) request.statement) done m (known_task request.statement m.history both.0) both.1)
+
+-- so it does while all are
+holding_run : (requests : List Request) (m : Moment) → AreFilling (catalog_of m.history.schema) → Holding m → While FillingHeld [] (run_events requests m) m
+holding_run requests m filling held =
+    while_run FillingHeld (λ (request : Request). Unit {0}) (λ request done n asks both. holding_request request done n both) requests [] m (λ k d within. tt) (filling, held)
 
 -- at the moment behind the events that are done
-pub holding_behind : (requests : List Request) (m : Moment) (done left : List Event) → Holding m → run_events requests m ≡ done ++ left → Holding (behind done m)
-holding_behind requests m done left held split = while_behind Held requests m done left (holding_run requests m held) split
+pub holding_behind : (requests : List Request) (m : Moment) (done left : List Event) → AreFilling (catalog_of m.history.schema) → Holding m → run_events requests m ≡ done ++ left → Holding (behind done m)
+holding_behind requests m done left filling held split = (while_behind FillingHeld requests m done left (holding_run requests m filling held) split).1
 
 -- nothing is acknowledged yet
 pub holding_none : (m : Moment) → m.acknowledged ≡ [] → Holding m

@@ -1,15 +1,18 @@
 -- Blocks that arrive under ids, by their entries.
-use Rattle.std.proofs.Common.{◌≡◌, ◌≢◌, ℕ, ◌-◌, Bool, true, false, if◌then◌else◌, List, [], ◌∷◌, ◌++◌, length, map, take, drop, Contains, refl, ap, subst, ◌∙◌}
+use Rattle.std.proofs.Common.{◌≡◌, ◌≢◌, ℕ, ◌-◌, Bool, true, false, if◌then◌else◌, List, [], ◌∷◌, ◌++◌, length, map, take, drop, ◌==◌, Contains, refl, ap, subst, ◌∙◌, arith}
 use Rattle.std.proofs.lemmas.Bool.{eq-eqb, ne_eqb}
 use Rattle.std.proofs.lemmas.List.{take-append-drop}
 use Rattle.std.proofs.lemmas.List.Elements.{Contains-append_right}
+use Rattle.chv_catalog.specs.declared.definition.Definition.{Definition}
+use Rattle.chv_catalog.specs.declared.definition.Definition.TheVariants.{Table, View}
+use Rattle.chv_catalog.specs.declared.table_def.TableDef.{TableDef}
 use Rattle.chv_part.specs.Arriving.{is_among_last, fresh}
 use Rattle.chv_part.specs.Books.{Book, Entry, is_recent}
 use Rattle.chv_part.proofs.BookLemmas.{is_recent-Decides}
 use Rattle.chv_query.specs.Arrivals.{Arrival, entry_in}
 use Rattle.chv_sip.specs.BlockIds.{last_ids}
 use Rattle.chv_sip.specs.declared.block_id.BlockId.{BlockId}
-use Rattle.chv_history.specs.Histories.{ids_in, put_at}
+use Rattle.chv_history.specs.Histories.{ids_in, put_at, with_none}
 
 -- those that are left out are so by their entries too
 pub fresh-entries : (window : ℕ) (ids : List BlockId) (arrivals : List Arrival) → fresh (λ (e : Entry). e.id) window ids (map entry_in arrivals) ≡ map entry_in (fresh (λ (a : Arrival). a.id) window ids arrivals)
@@ -43,3 +46,21 @@ put_at-same {A} number new old = ap (λ (same : Bool). if same then new else old
 
 pub put_at-other : {A : Type 0} (number n : ℕ) (new : A) (old : ℕ → A) → n ≢ number → put_at number new old n ≡ old n
 put_at-other {A} number n new old other = ap (λ (same : Bool). if same then new else old n) (ne_eqb n number other)
+
+-- of a new table there is none, and of every other number what was there
+pub with_none-new : {A : Type 0} (definition : Definition) (def : TableDef) (number : ℕ) (each : ℕ → List A) → definition ≡ Table def → with_none definition number each number ≡ []
+with_none-new {A} (Table new) def number each is = put_at-same number [] each
+with_none-new {A} (View new) def number each is = absurd (cc is)
+
+pub with_none-other : {A : Type 0} (definition : Definition) (number n : ℕ) (each : ℕ → List A) → n ≢ number → with_none definition number each n ≡ each n
+with_none-other {A} (Table new) number n each other = put_at-other number n [] each other
+with_none-other {A} (View new) number n each other = refl
+
+-- what is there behind a definition was there before
+pub with_none-among : {A : Type 0} (definition : Definition) (number n : ℕ) (each : ℕ → List A) (a : A) → Contains (with_none definition number each n) a → Contains (each n) a
+with_none-among {A} (Table new) number n each a is =
+    (elim (n == number) as (λ (b : Bool). Contains (if b then [] else each n) a → Contains (each n) a) [
+      | true ↦ λ there. absurd (omega (arith, there.1))
+      | false ↦ λ there. there
+    ]) is
+with_none-among {A} (View new) number n each a is = is

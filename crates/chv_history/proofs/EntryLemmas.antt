@@ -2,26 +2,20 @@
 use Rattle.std.proofs.Common.{◌≡◌, ◌≢◌, inl, inr, ℕ, ◌+◌, suc, List, [], ◌∷◌, ◌++◌, length, map, refl, sym, ap, ap₂, subst, ◌∙◌}
 use Rattle.std.proofs.lemmas.Bool.{cases_eq}
 use Rattle.std.proofs.lemmas.List.{append-nil, length-append, length-map, map-append}
+use Rattle.chv_catalog.specs.declared.definition.Definition.{Definition}
+use Rattle.chv_catalog.specs.declared.definition.Definition.TheVariants.{Table, View}
 use Rattle.chv_commit.specs.Replays.{Span}
 use Rattle.chv_query.specs.Accepted.{Accepted, tables_of}
 use Rattle.chv_part.specs.Arriving.{fresh, with_part}
-use Rattle.chv_part.specs.Books.{TableForm, Book, Entry, IsEntry, no_book, ids_of, arrived, committed}
-use Rattle.chv_query.specs.Arrivals.{Arrival, IsArrival, entry_in}
+use Rattle.chv_part.specs.Books.{Book, Entry, no_book, ids_of, arrived, committed}
+use Rattle.chv_query.specs.Arrivals.{Arrival, entry_in}
 use Rattle.chv_part.proofs.BookLemmas.{committed-arrived}
-use Rattle.chv_part.proofs.BookRowLemmas.{IsEntry-entry_of}
 use Rattle.chv_sip.specs.declared.block_id.BlockId.{BlockId}
-use Rattle.chv_types.specs.declared.value.Value.{Value}
 use Rattle.chv_history.specs.Events.{with_arrivals, with_commit, written_in}
-use Rattle.chv_history.specs.Histories.{History, book_of, ids_in, put_at, window_at, with_accepted}
+use Rattle.chv_history.specs.Histories.{History, book_of, ids_in, put_at, window_at, with_accepted, with_none}
 use Rattle.chv_history.specs.Runs.{entries_in}
 use Rattle.chv_history.proofs.ArrivingLemmas.{fresh-entries, ids-entries, put_at-same, put_at-other}
 use Rattle.chv_history.proofs.CommitLemmas.{arrivals-with_commit}
-
--- what arrives is an entry of its table
-pub IsEntry-IsArrival : (form : TableForm) (arrival : Arrival) → IsArrival form arrival → IsEntry form (entry_in arrival)
-IsEntry-IsArrival form arrival is =
-    subst (IsEntry form) (ap₂ (λ (id : BlockId) (rows : List (List Value)). record { id = id; rows = rows }) (sym is.id_is) (sym is.rows_are))
-    (IsEntry-entry_of form arrival.source arrival.block is.kinds_fit is.some is.most)
 
 -- a book and the number of its entries, and their ids, are those of what arrived
 pub length-entries : (history : History) (table : ℕ) → length (book_of history table).entries ≡ entries_in history table
@@ -81,19 +75,30 @@ books-arrived table arrival history n =
       | inr other ↦ book_of-other table n (arrival ∷ []) history other ∙ sym (put_at-other table n next (book_of history) other)
     ]
 
+-- of a new table there is no book; a view changes nothing
+abbrev pub with_new_book : Definition → ℕ → (ℕ → Book) → ℕ → Book
+with_new_book (Table def) number books = put_at number no_book books
+with_new_book (View def) number books = books
+
 -- and behind an accepted statement
-pub books-accepted : (accepted : Accepted) (history : History) (n : ℕ) → book_of (with_accepted accepted history) n ≡ put_at (length (tables_of history.schema) + 1) no_book (book_of history) n
-books-accepted accepted history n =
-    let number = length (tables_of history.schema) + 1 in
+books-defined : (definition : Definition) (number : ℕ) (history : History) (n : ℕ)
+    → record { entries = map entry_in (with_none definition number history.arrivals n); layout = with_none definition number history.layouts n } ≡ with_new_book definition number (book_of history) n
+books-defined (Table def) number history n =
     let both : List Arrival → List Span → Book = λ arrivals layout. record { entries = map entry_in arrivals; layout = layout } in
-    elim (cases_eq n number) as (λ _. book_of (with_accepted accepted history) n ≡ put_at number no_book (book_of history) n) [
+    let Same : ℕ → Type 0 = λ k. both (put_at number [] history.arrivals k) (put_at number [] history.layouts k) ≡ put_at number no_book (book_of history) k in
+    elim (cases_eq n number) as (λ _. Same n) [
       | inl same ↦
-          subst (λ (m : ℕ). book_of (with_accepted accepted history) m ≡ put_at number no_book (book_of history) m) (sym same)
+          subst Same (sym same)
           (ap₂ both (put_at-same number [] history.arrivals) (put_at-same number [] history.layouts) ∙ sym (put_at-same number no_book (book_of history)))
       | inr other ↦
           ap₂ both (put_at-other number n [] history.arrivals other) (put_at-other number n [] history.layouts other)
           ∙ sym (put_at-other number n no_book (book_of history) other)
     ]
+books-defined (View def) number history n = refl
+
+pub books-accepted : (accepted : Accepted) (history : History) (n : ℕ)
+    → book_of (with_accepted accepted history) n ≡ with_new_book accepted.definition (length (tables_of history.schema) + 1) (book_of history) n
+books-accepted accepted history n = books-defined accepted.definition (length (tables_of history.schema) + 1) history n
 
 -- how many entries a table has behind a commit
 pub entries_in-commit : (table : ℕ) (arrivals : List Arrival) (history : History) → entries_in (with_commit table arrivals history) table ≡ entries_in history table + length (written_in table arrivals history)

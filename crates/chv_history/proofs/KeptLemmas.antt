@@ -2,7 +2,7 @@
 use Rattle.std.proofs.Common.{◌≡◌, ◌≢◌, inl, inr, ℕ, ◌+◌, ◌-◌, ◌≤◌, Bool, true, false, not, ◌&&◌, ◌||◌, if◌then◌else◌, List, [], ◌∷◌, ◌++◌, length, map, Option, None, Some, Result, Ok, Err, IfOk, is_none, nat_lt, slice_get, refl, sym, ap, ap₂, subst, ◌∙◌, arith}
 use Rattle.std.specs.List.{All, list_all, list_any}
 use Rattle.std.proofs.lemmas.Bool.{cases_eq}
-use Rattle.std.proofs.lemmas.List.{drop_all, length-append, map_push}
+use Rattle.std.proofs.lemmas.List.{append-nil, drop_all, length-append, map_push}
 use Rattle.std.proofs.lemmas.List.Elements.{All-head, All-tail}
 use Rattle.std.proofs.lemmas.List.Folds.{Any-from_list_any}
 use Rattle.chv_ast.specs.declared.refusal.Refusal.{Refusal}
@@ -10,10 +10,12 @@ use Rattle.chv_ast.specs.declared.refusal.Refusal.TheVariants.{LimitPassed, NotB
 use Rattle.chv_ast.specs.declared.statement.Statement.{Statement}
 use Rattle.chv_ast.specs.declared.statement.Statement.TheVariants as statement
 use Rattle.chv_catalog.proofs.SchemaLemmas.{same_tables}
-use Rattle.chv_catalog.specs.Schemas.{Catalog, no_definitions}
+use Rattle.chv_catalog.specs.Schemas.{Catalog, no_definitions, with_definition}
+use Rattle.chv_catalog.specs.declared.definition.Definition.{Definition}
+use Rattle.chv_catalog.specs.declared.definition.Definition.TheVariants.{Table, View}
 use Rattle.chv_catalog.specs.declared.table_def.TableDef.{TableDef}
 use Rattle.chv_commit.specs.Replays.{MAX_ENTRIES, State, added, no_state}
-use Rattle.chv_query.specs.Accepted.{Accepted, catalog_of, tables_in, tables_of, with_definition}
+use Rattle.chv_query.specs.Accepted.{Accepted, IsSchema, catalog_of, tables_in, tables_of}
 use Rattle.chv_query.proofs.AcceptedLemmas.{catalog_of-push}
 use Rattle.chv_part.specs.Forms.{form_of}
 use Rattle.chv_query.specs.Arrivals.{Arrival}
@@ -26,18 +28,20 @@ use Rattle.chv_sip.specs.declared.block_id.BlockId.{BlockId}
 use Rattle.chv_sip.proofs.LastIds.{last_ids-last_ids}
 use Rattle.chv_history.specs.Built.{is_built}
 use Rattle.chv_history.specs.Events.{Event, Plan, Moment, begins, behind, happen, with_commit}
-use Rattle.chv_history.specs.Histories.{History, book_of, ids_in, no_history, put_at, window_at, window_in, with_accepted}
-use Rattle.chv_history.specs.Kept.{Kept, IsKeptOf, IsRefused, MayDivide, Refuses, entries_kept, kept_answer, kept_behind, kept_delivery, kept_plan, kept_task, noted}
+use Rattle.chv_history.specs.Histories.{History, book_of, ids_in, no_history, put_at, window_at, window_in, with_accepted, with_none}
+use Rattle.chv_history.specs.Kept.{Kept, IsKeptOf, IsRefused, MayDivide, Refuses, entries_kept, kept_answer, kept_behind, kept_delivery, kept_plan, kept_task, noted, with_log}
 use Rattle.chv_history.specs.Runs.{answer_events, delivered, delivery_event, entries_in, request_events, run_events}
 use Rattle.chv_history.specs.Script.{Request}
 use Rattle.chv_history.specs.Tasks.{Task, Bring, Make, TellParts, TellRows, built_task, deliveries_to, has_room, task_of}
 use Rattle.chv_history.specs.Told.{table_rows}
-use Rattle.chv_history.proofs.ArrivingLemmas.{put_at-same, put_at-other}
+use Rattle.chv_history.proofs.ArrivingLemmas.{put_at-same, put_at-other, with_none-new, with_none-other}
 use Rattle.chv_history.proofs.CommitLemmas.{arrivals-other, arrivals-with_arrivals, is_skipped, schema-with_commit, with_commit-new, with_commit-skipped}
 use Rattle.chv_history.proofs.LawfulLemmas.{table_cases}
+use Rattle.chv_history.proofs.FillingLemmas.{Filling, filling_request}
 use Rattle.chv_history.proofs.LeftLemmas.{behind-append}
-use Rattle.chv_history.proofs.LookupLemmas.{planned-within, table_at}
+use Rattle.chv_history.proofs.LookupLemmas.{AreFilling, planned-within, schema-filling, table_at}
 use Rattle.chv_history.proofs.RequestLemmas.{behind-cons, deliveries_refused, or_assoc, or_false}
+use Rattle.chv_history.proofs.WhileLemmas.{while_last}
 
 -- of one table: as many entries, and the last of their ids
 pub record Tells (window : ℕ) (state : State) (arrivals : List Arrival) : Type 0 where
@@ -123,7 +127,21 @@ pub kept_planned : (plan : Plan) (kept : Kept) (m : Moment) → IsKeptOf kept m.
 kept_planned [] kept m is = is
 kept_planned (delivery ∷ plan) kept m is = kept_planned plan (kept_delivery delivery kept) (happen (delivery_event delivery) m) (kept_delivered delivery kept m.history is)
 
--- a table is made
+-- of a new table nothing is said, and of every other what was
+with_log-new : (definition : Definition) (def : TableDef) (number : ℕ) (states : ℕ → State) → definition ≡ Table def → with_log definition number states number ≡ no_state
+with_log-new (Table new) def number states is = put_at-same number no_state states
+with_log-new (View new) def number states is = absurd (cc is)
+
+with_log-other : (definition : Definition) (number n : ℕ) (states : ℕ → State) → n ≢ number → with_log definition number states n ≡ states n
+with_log-other (Table new) number n states other = put_at-other number n no_state states other
+with_log-other (View new) number n states other = refl
+
+-- the tables of a catalog with a definition more
+tables-more : (definition : Definition) (catalog : Catalog) → (with_definition definition catalog).tables ≡ catalog.tables ++ tables_in definition
+tables-more (Table new) catalog = refl
+tables-more (View new) catalog = sym (append-nil catalog.tables)
+
+-- a table or a view is made
 module _ (accepted : Accepted) (kept : Kept) (history : History) (is : IsKeptOf kept history) where
   abbrev number : ℕ
   number = length kept.catalog.tables + 1
@@ -131,25 +149,29 @@ module _ (accepted : Accepted) (kept : Kept) (history : History) (is : IsKeptOf 
   same_number : length (tables_of history.schema) + 1 ≡ number
   same_number = ap (λ (tables : List TableDef). length tables + 1) (sym (kept_tables kept history is))
 
-  tells_made : (place : ℕ) (def : TableDef) → slice_get (kept.catalog.tables ++ tables_in accepted.definition) place ≡ Some def
-      → Tells def.window (put_at number no_state kept.states (place + 1)) (put_at number [] history.arrivals (place + 1))
+  abbrev TellsMade : TableDef → ℕ → Type 0
+  TellsMade def n = Tells def.window (with_log accepted.definition number kept.states n) (with_none accepted.definition number history.arrivals n)
+
+  tells_made : (place : ℕ) (def : TableDef) → slice_get (kept.catalog.tables ++ tables_in accepted.definition) place ≡ Some def → TellsMade def (place + 1)
   tells_made place def stands =
-      elim (table_cases kept.catalog.tables accepted.definition place def stands) as (λ _. Tells def.window (put_at number no_state kept.states (place + 1)) (put_at number [] history.arrivals (place + 1))) [
+      elim (table_cases kept.catalog.tables accepted.definition place def stands) as (λ _. TellsMade def (place + 1)) [
         | inl old ↦
             let other : place + 1 ≢ number = λ same. absurd (omega (arith, same, old.0)) in
-            subst (λ (s : State). Tells def.window s (put_at number [] history.arrivals (place + 1))) (sym (put_at-other number (place + 1) no_state kept.states other))
-            (subst (Tells def.window (kept.states (place + 1))) (sym (put_at-other number (place + 1) [] history.arrivals other)) (kept_at kept history place def is old.1))
-        | inr last ↦
-            subst (λ (p : ℕ). Tells def.window (put_at number no_state kept.states (p + 1)) (put_at number [] history.arrivals (p + 1))) (sym last)
-            (subst (λ (s : State). Tells def.window s (put_at number [] history.arrivals number)) (sym (put_at-same number no_state kept.states))
-            (subst (Tells def.window no_state) (sym (put_at-same number [] history.arrivals)) (tells_none def.window)))
+            subst (λ (s : State). Tells def.window s (with_none accepted.definition number history.arrivals (place + 1))) (sym (with_log-other accepted.definition number (place + 1) kept.states other))
+            (subst (Tells def.window (kept.states (place + 1))) (sym (with_none-other accepted.definition number (place + 1) history.arrivals other)) (kept_at kept history place def is old.1))
+        | inr new ↦
+            subst (λ (p : ℕ). TellsMade def (p + 1)) (sym new.0)
+            (subst (λ (s : State). Tells def.window s (with_none accepted.definition number history.arrivals number)) (sym (with_log-new accepted.definition def number kept.states new.1))
+            (subst (Tells def.window no_state) (sym (with_none-new accepted.definition def number history.arrivals new.1)) (tells_none def.window)))
       ]
 
   pub kept_made : IsKeptOf (kept_task (Ok (Make accepted)) kept) (with_accepted accepted history)
   kept_made =
       kept_by (kept_task (Ok (Make accepted)) kept) (with_accepted accepted history)
-      (ap (λ (catalog : Catalog). with_definition catalog accepted.definition) is.catalog ∙ sym (catalog_of-push history.schema accepted))
-      (λ place def stands. subst (λ (n : ℕ). Tells def.window (put_at number no_state kept.states (place + 1)) (put_at n [] history.arrivals (place + 1))) (sym same_number) (tells_made place def stands))
+      (ap (with_definition accepted.definition) is.catalog ∙ sym (catalog_of-push history.schema accepted))
+      (λ place def stands.
+      subst (λ (n : ℕ). Tells def.window (with_log accepted.definition number kept.states (place + 1)) (with_none accepted.definition n history.arrivals (place + 1))) (sym same_number)
+      (tells_made place def (subst (λ (defs : List TableDef). slice_get defs place ≡ Some def) (tables-more accepted.definition kept.catalog) stands)))
 
 -- a task is done, or refused
 pub kept_answered : (client : ℕ) (task : Result Task Refusal) (kept : Kept) (m : Moment) → IsKeptOf kept m.history → IsKeptOf (kept_task task kept) (behind (answer_events client task m.history) m).history
@@ -208,19 +230,19 @@ bring_agrees : (tables : List TableDef) (one two : ℕ → ℕ) (plans : Result 
 bring_agrees tables one two (Ok plan) agree known = ap (λ (b : Bool). refuse_if (not b) LimitPassed (Ok (Bring plan))) (room_agrees tables one two plan plan agree known)
 bring_agrees tables one two (Err refuses) agree known = refl
 
-built_agrees : (catalog : Catalog) (one two : ℕ → ℕ) (asked : Statement) → Agree catalog.tables one two → built_task catalog one asked ≡ built_task catalog two asked
-built_agrees catalog one two (statement.CreateTable made) agree = refl
-built_agrees catalog one two (statement.Insert brought) agree = bring_agrees catalog.tables one two (planned catalog brought) agree (planned-within catalog brought)
-built_agrees catalog one two (statement.Query select) agree = refl
-built_agrees catalog one two (statement.ShowParts asked) agree = refl
-built_agrees catalog one two (statement.CreateView asked) agree = refl
-built_agrees catalog one two (statement.Optimize asked) agree = refl
-built_agrees catalog one two statement.FlushQueue agree = refl
+built_agrees : (catalog : Catalog) (one two : ℕ → ℕ) (asked : Statement) → AreFilling catalog → Agree catalog.tables one two → built_task catalog one asked ≡ built_task catalog two asked
+built_agrees catalog one two (statement.CreateTable made) filling agree = refl
+built_agrees catalog one two (statement.Insert brought) filling agree = bring_agrees catalog.tables one two (planned catalog brought) agree (planned-within catalog filling brought)
+built_agrees catalog one two (statement.Query select) filling agree = refl
+built_agrees catalog one two (statement.ShowParts asked) filling agree = refl
+built_agrees catalog one two (statement.CreateView asked) filling agree = refl
+built_agrees catalog one two (statement.Optimize asked) filling agree = refl
+built_agrees catalog one two statement.FlushQueue filling agree = refl
 
 -- so the task of a statement is the same
-pub task_agrees : (catalog : Catalog) (one two : ℕ → ℕ) (asked : Option Statement) → Agree catalog.tables one two → task_of catalog one asked ≡ task_of catalog two asked
-task_agrees catalog one two None agree = refl
-task_agrees catalog one two (Some asked) agree = ap (refuse_if (not (is_built asked)) NotBuilt) (built_agrees catalog one two asked agree)
+pub task_agrees : (catalog : Catalog) (one two : ℕ → ℕ) (asked : Option Statement) → AreFilling catalog → Agree catalog.tables one two → task_of catalog one asked ≡ task_of catalog two asked
+task_agrees catalog one two None filling agree = refl
+task_agrees catalog one two (Some asked) filling agree = ap (refuse_if (not (is_built asked)) NotBuilt) (built_agrees catalog one two asked filling agree)
 
 -- what is held agrees with its history
 pub kept_agrees : (kept : Kept) (history : History) → IsKeptOf kept history → Agree kept.catalog.tables (entries_kept kept) (entries_in history)
@@ -230,10 +252,10 @@ kept_agrees kept history is table first last =
     subst (λ (n : ℕ). entries_kept kept n ≡ entries_in history n) place (is.entries (table - 1) at.0 at.1)
 
 -- so a request has the same task by what is held
-pub kept_request : (request : Request) (kept : Kept) (history : History) → IsKeptOf kept history → task_of (catalog_of history.schema) (entries_in history) request.statement ≡ kept_answer request kept
-kept_request request kept history is =
+pub kept_request : (request : Request) (kept : Kept) (history : History) → AreFilling (catalog_of history.schema) → IsKeptOf kept history → task_of (catalog_of history.schema) (entries_in history) request.statement ≡ kept_answer request kept
+kept_request request kept history filling is =
     ap (λ (catalog : Catalog). task_of catalog (entries_in history) request.statement) (sym is.catalog)
-    ∙ sym (task_agrees kept.catalog (entries_kept kept) (entries_in history) request.statement (kept_agrees kept history is))
+    ∙ sym (task_agrees kept.catalog (entries_kept kept) (entries_in history) request.statement (subst AreFilling (sym is.catalog) filling) (kept_agrees kept history is))
 
 -- a moment behind requests is marked where one was refused before, or one of them is
 pub record MarksAll (requests : List Request) (kept : Kept) (before after : Bool) : Type 0 where
@@ -250,11 +272,11 @@ marks_more request requests kept before between after one rest = record {
 }
 
 -- what is held stays that of the history in a run, which refuses a statement as what is held says
-pub kept_run : (requests : List Request) (kept : Kept) (m : Moment) → IsKeptOf kept m.history
+pub kept_run : (requests : List Request) (kept : Kept) (m : Moment) → AreFilling (catalog_of m.history.schema) → IsKeptOf kept m.history
     → IsKeptOf (kept_behind requests kept) (behind (run_events requests m) m).history × MarksAll requests kept m.refused (behind (run_events requests m) m).refused
-kept_run [] kept m is = (is, record { later = false; marks = or_false m.refused; refuses = refl })
-kept_run (request ∷ requests) kept m is =
-    let task = kept_request request kept m.history is in
+kept_run [] kept m filling is = (is, record { later = false; marks = or_false m.refused; refuses = refl })
+kept_run (request ∷ requests) kept m filling is =
+    let task = kept_request request kept m.history filling is in
     let events = request_events request m.history in
     let by : events ≡ answer_events request.client (kept_answer request kept) m.history = ap (λ (t : Result Task Refusal). answer_events request.client t m.history) task in
     let next = behind events m in
@@ -262,7 +284,8 @@ kept_run (request ∷ requests) kept m is =
     subst (λ (es : List Event). IsKeptOf (kept_task (kept_answer request kept) kept) (behind es m).history) (sym by) (kept_answered request.client (kept_answer request kept) kept m is) in
     let mark : MarksAnswer (kept_answer request kept) m.refused next.refused =
     subst (λ (es : List Event). MarksAnswer (kept_answer request kept) m.refused (behind es m).refused) (sym by) (refused_answered request.client (kept_answer request kept) m) in
-    let rest = kept_run requests (kept_task (kept_answer request kept) kept) next held in
+    let seen : AreFilling (catalog_of next.history.schema) = while_last Filling events [] m (filling_request request [] m filling) in
+    let rest = kept_run requests (kept_task (kept_answer request kept) kept) next seen held in
     let last = behind (run_events requests next) next in
     let all = behind-cons request requests m in (
       subst (λ (n : Moment). IsKeptOf (kept_behind requests (kept_task (kept_answer request kept) kept)) n.history) (sym all) rest.0,
@@ -270,10 +293,10 @@ kept_run (request ∷ requests) kept m is =
     )
 
 -- so it is in a run that begins with nothing refused
-pub kept_begun : (requests : List Request) (kept : Kept) (history : History) → IsKeptOf kept history
+pub kept_begun : (requests : List Request) (kept : Kept) (history : History) → IsSchema history.schema → IsKeptOf kept history
     → IsKeptOf (kept_behind requests kept) (behind (run_events requests (begins history)) (begins history)).history × Refuses requests kept (behind (run_events requests (begins history)) (begins history)).refused
-kept_begun requests kept history is =
-    let all = kept_run requests kept (begins history) is in
+kept_begun requests kept history schema is =
+    let all = kept_run requests kept (begins history) (schema-filling history.schema schema) is in
     (all.0, subst (Refuses requests kept) (sym all.1.marks) all.1.refuses)
 
 -- of a new store nothing is held

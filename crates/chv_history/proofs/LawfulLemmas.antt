@@ -1,22 +1,29 @@
--- A history stays lawful as a table is made and as blocks arrive.
+-- A history stays lawful as a table or a view is made and as blocks arrive.
 use Rattle.std.proofs.Common.{◌≡◌, ◌≢◌, ◌⊎◌, inl, inr, ℕ, zero, suc, ◌+◌, ◌-◌, ◌<◌, ◌≤◌, Bool, true, false, List, [], ◌∷◌, ◌++◌, length, map, slice_get, Some, All, refl, sym, ap, ap₂, subst, ◌∙◌, arith}
 use Rattle.std.proofs.lemmas.Bool.{cases_eq}
 use Rattle.std.proofs.lemmas.List.{append-nil, length-map, map-append}
-use Rattle.std.proofs.lemmas.List.Elements.{All-nil, All-push}
+use Rattle.std.proofs.lemmas.List.Elements.{All-nil, All-push, All-weaker}
+use Rattle.std.proofs.lemmas.Option.{slice_get_within}
+use Rattle.chv_catalog.specs.Schemas.{Catalog}
+use Rattle.chv_catalog.specs.declared.definition.Definition.{Definition}
+use Rattle.chv_catalog.specs.declared.definition.Definition.TheVariants.{Table, View}
 use Rattle.chv_catalog.specs.declared.table_def.TableDef.{TableDef}
 use Rattle.chv_commit.specs.Replays.{MAX_ENTRIES, Span}
-use Rattle.chv_query.specs.Accepted.{Accepted, Definition, IsAccepted, IsSchema, Table, catalog_of, is_built_create, tables_in, tables_of}
+use Rattle.chv_query.specs.Accepted.{Accepted, IsAccepted, IsSchema, catalog_of, is_built_create, tables_in, tables_of}
 use Rattle.chv_query.proofs.AcceptedLemmas.{IsSchema-push, tables_of-push}
 use Rattle.chv_part.specs.Books.{TableForm, IsLawfulBook, no_book, arrived}
 use Rattle.chv_part.specs.Forms.{form_of}
 use Rattle.chv_part.proofs.BookLemmas.{IsLawfulBook-arrived, IsLawfulBook-no_book}
 use Rattle.chv_query.specs.Arrivals.{Arrival, IsArrival, entry_in}
+use Rattle.chv_query.specs.Derived.{def_at}
+use Rattle.chv_query.proofs.GrowthLemmas.{IsArrival-more}
 use Rattle.chv_history.specs.Events.{with_commit, written_in}
-use Rattle.chv_history.specs.Histories.{History, IsLawful, book_of, forms_of, put_at, window_at, window_in, with_accepted}
+use Rattle.chv_history.specs.Histories.{History, IsLawful, book_of, forms_of, window_at, window_in, with_accepted, with_none}
 use Rattle.chv_history.specs.Runs.{entries_in}
-use Rattle.chv_history.proofs.ArrivingLemmas.{put_at-same, put_at-other}
+use Rattle.chv_history.proofs.ArrivingLemmas.{with_none-new, with_none-other}
+use Rattle.chv_query.proofs.EntryLemmas.{arrival-entry}
 use Rattle.chv_history.proofs.CommitLemmas.{arrivals-other, arrivals-with_commit, is_skipped, schema-with_commit, written_in-new, written_in-skipped}
-use Rattle.chv_history.proofs.EntryLemmas.{IsEntry-IsArrival, book_of-arrived, book_of-other, length-entries}
+use Rattle.chv_history.proofs.EntryLemmas.{book_of-arrived, book_of-other, length-entries}
 
 -- the form at a place is that of the table there
 pub form_at : (tables : List TableDef) (place : ℕ) (form : TableForm) → slice_get (map form_of tables) place ≡ Some form → (def : TableDef) × (slice_get tables place ≡ Some def) × (form ≡ form_of def)
@@ -51,27 +58,21 @@ slice_get-push (first ∷ xs) x y (suc place) is =
       | inr new ↦ inr (omega (arith, new.0), new.1)
     ]
 
--- a table of a schema with a definition more is one from before, or the last
+-- a table of a schema with a definition more is one from before, or the one that is defined, which is the last
 pub table_cases : (tables : List TableDef) (definition : Definition) (place : ℕ) (def : TableDef) → slice_get (tables ++ tables_in definition) place ≡ Some def
-    → ((place < length tables) × (slice_get tables place ≡ Some def)) ⊎ (place ≡ length tables)
+    → ((place < length tables) × (slice_get tables place ≡ Some def)) ⊎ ((place ≡ length tables) × (definition ≡ Table def))
 table_cases tables (Table new) place def is =
-    elim (slice_get-push tables new def place is) as (λ _. ((place < length tables) × (slice_get tables place ≡ Some def)) ⊎ (place ≡ length tables)) [
+    elim (slice_get-push tables new def place is) as (λ _. ((place < length tables) × (slice_get tables place ≡ Some def)) ⊎ ((place ≡ length tables) × (Table new ≡ Table def))) [
       | inl old ↦ inl old
-      | inr last ↦ inr last.0
+      | inr last ↦ inr (last.0, ap Table last.1)
     ]
+table_cases tables (View new) place def is =
+    let old : slice_get tables place ≡ Some def = subst (λ (defs : List TableDef). slice_get defs place ≡ Some def) (append-nil tables) is in
+    inl (slice_get_within tables place def old, old)
 
 -- the forms of a schema with a definition more
 pub forms_of-push : (schema : List Accepted) (accepted : Accepted) → forms_of (schema ++ accepted ∷ []) ≡ forms_of schema ++ map form_of (tables_in accepted.definition)
 forms_of-push schema accepted = ap (map form_of) (tables_of-push schema accepted) ∙ map-append form_of (tables_of schema) (tables_in accepted.definition)
-
--- a form there is one from before, or that of the new table, which is the last
-new_form : (tables : List TableDef) (definition : Definition) (place : ℕ) (form : TableForm) → slice_get (map form_of tables ++ map form_of (tables_in definition)) place ≡ Some form
-    → ((place < length tables) × (slice_get (map form_of tables) place ≡ Some form)) ⊎ (place ≡ length tables)
-new_form tables (Table def) place form is =
-    elim (slice_get-push (map form_of tables) (form_of def) form place is) as (λ _. ((place < length tables) × (slice_get (map form_of tables) place ≡ Some form)) ⊎ (place ≡ length tables)) [
-      | inl old ↦ inl (omega (arith, old.0, length-forms_of tables), old.1)
-      | inr new ↦ inr (omega (arith, new.0, length-forms_of tables))
-    ]
 
 module _ (accepted : Accepted) (history : History) (lawful : IsLawful history) where
   abbrev tables : List TableDef
@@ -80,95 +81,118 @@ module _ (accepted : Accepted) (history : History) (lawful : IsLawful history) w
   abbrev number : ℕ
   number = length tables + 1
 
-  form_cases : (place : ℕ) (form : TableForm) → slice_get (forms_of (history.schema ++ accepted ∷ [])) place ≡ Some form
-      → ((place < length tables) × (slice_get (forms_of history.schema) place ≡ Some form)) ⊎ (place ≡ length tables)
-  form_cases place form is = new_form tables accepted.definition place form (subst (λ (forms : List TableForm). slice_get forms place ≡ Some form) (forms_of-push history.schema accepted) is)
+  abbrev more : List Accepted
+  more = history.schema ++ accepted ∷ []
+
+  abbrev Cases : ℕ → TableDef → Type 0
+  Cases place def = ((place < length tables) × (slice_get tables place ≡ Some def)) ⊎ ((place ≡ length tables) × (accepted.definition ≡ Table def))
+
+  new_cases : (place : ℕ) (def : TableDef) → slice_get (tables_of more) place ≡ Some def → Cases place def
+  new_cases place def is = table_cases tables accepted.definition place def (subst (λ (defs : List TableDef). slice_get defs place ≡ Some def) (tables_of-push history.schema accepted) is)
 
   -- what arrived in each table, and its book: those from before, or none
-  still_arrivals : (place : ℕ) (form : TableForm) → slice_get (forms_of (history.schema ++ accepted ∷ [])) place ≡ Some form → All (IsArrival form) (put_at number [] history.arrivals (place + 1))
-  still_arrivals place form is = elim (form_cases place form is) as (λ _. All (IsArrival form) (put_at number [] history.arrivals (place + 1))) [
-    | inl old ↦ subst (All (IsArrival form)) (sym (put_at-other number (place + 1) [] history.arrivals (λ same. absurd (omega (arith, same, old.0))))) (lawful.arrivals place form old.1)
+  abbrev Arrived : ℕ → List Arrival → Type 0
+  Arrived table arrivals = All (IsArrival (catalog_of more) table) arrivals
+
+  still_arrivals : IsSchema more → (place : ℕ) (def : TableDef) → slice_get (tables_of more) place ≡ Some def → Arrived (place + 1) (with_none accepted.definition number history.arrivals (place + 1))
+  still_arrivals schema place def is = elim (new_cases place def is) as (λ _. Arrived (place + 1) (with_none accepted.definition number history.arrivals (place + 1))) [
+    | inl old ↦
+        subst (Arrived (place + 1)) (sym (with_none-other accepted.definition number (place + 1) history.arrivals (λ same. absurd (omega (arith, same, old.0)))))
+        (All-weaker (IsArrival (catalog_of history.schema) (place + 1)) (IsArrival (catalog_of more) (place + 1)) (λ a of. IsArrival-more history.schema accepted schema (place + 1) a of)
+        (history.arrivals (place + 1)) (lawful.arrivals place def old.1))
     | inr new ↦
-        subst (λ (p : ℕ). All (IsArrival form) (put_at number [] history.arrivals (p + 1))) (sym new)
-        (subst (All (IsArrival form)) (sym (put_at-same number [] history.arrivals)) (All-nil (IsArrival form)))
+        subst (λ (p : ℕ). Arrived (place + 1) (with_none accepted.definition number history.arrivals (p + 1))) (sym new.0)
+        (subst (Arrived (place + 1)) (sym (with_none-new accepted.definition def number history.arrivals new.1)) (All-nil (IsArrival (catalog_of more) (place + 1))))
   ]
 
   old_book : (place : ℕ) → place < length tables → book_of (with_accepted accepted history) (place + 1) ≡ book_of history (place + 1)
   old_book place below =
       let other : place + 1 ≢ number = λ same. absurd (omega (arith, same, below)) in
       ap₂ (λ (arrivals : List Arrival) (layout : List Span). record { entries = map entry_in arrivals; layout = layout })
-      (put_at-other number (place + 1) [] history.arrivals other) (put_at-other number (place + 1) [] history.layouts other)
+      (with_none-other accepted.definition number (place + 1) history.arrivals other) (with_none-other accepted.definition number (place + 1) history.layouts other)
 
-  new_book : book_of (with_accepted accepted history) number ≡ no_book
-  new_book =
+  new_book : (def : TableDef) → accepted.definition ≡ Table def → book_of (with_accepted accepted history) number ≡ no_book
+  new_book def is =
       ap₂ (λ (arrivals : List Arrival) (layout : List Span). record { entries = map entry_in arrivals; layout = layout })
-      (put_at-same number [] history.arrivals) (put_at-same number [] history.layouts)
+      (with_none-new accepted.definition def number history.arrivals is) (with_none-new accepted.definition def number history.layouts is)
 
-  still_books : (place : ℕ) (form : TableForm) → slice_get (forms_of (history.schema ++ accepted ∷ [])) place ≡ Some form → IsLawfulBook form (book_of (with_accepted accepted history) (place + 1))
-  still_books place form is = elim (form_cases place form is) as (λ _. IsLawfulBook form (book_of (with_accepted accepted history) (place + 1))) [
-    | inl old ↦ subst (IsLawfulBook form) (sym (old_book place old.0)) (lawful.books place form old.1)
+  still_book : (place : ℕ) (def : TableDef) → slice_get (tables_of more) place ≡ Some def → IsLawfulBook (form_of def) (book_of (with_accepted accepted history) (place + 1))
+  still_book place def is = elim (new_cases place def is) as (λ _. IsLawfulBook (form_of def) (book_of (with_accepted accepted history) (place + 1))) [
+    | inl old ↦ subst (IsLawfulBook (form_of def)) (sym (old_book place old.0)) (lawful.books place (form_of def) (form_there tables place def old.1))
     | inr new ↦
-        subst (λ (p : ℕ). IsLawfulBook form (book_of (with_accepted accepted history) (p + 1))) (sym new)
-        (subst (IsLawfulBook form) (sym new_book) (IsLawfulBook-no_book form))
+        subst (λ (p : ℕ). IsLawfulBook (form_of def) (book_of (with_accepted accepted history) (p + 1))) (sym new.0)
+        (subst (IsLawfulBook (form_of def)) (sym (new_book def new.1)) (IsLawfulBook-no_book (form_of def)))
   ]
+
+  still_books : (place : ℕ) (form : TableForm) → slice_get (forms_of more) place ≡ Some form → IsLawfulBook form (book_of (with_accepted accepted history) (place + 1))
+  still_books place form is =
+      let at = form_at (tables_of more) place form is in
+      subst (λ (f : TableForm). IsLawfulBook f (book_of (with_accepted accepted history) (place + 1))) (sym at.2) (still_book place at.0 at.1)
 
   -- a statement is accepted
   pub lawful_accepted : is_built_create accepted.statement ≡ true → IsAccepted (catalog_of history.schema) accepted → IsLawful (with_accepted accepted history)
-  lawful_accepted built is = record { schema = IsSchema-push history.schema accepted lawful.schema built is; arrivals = still_arrivals; books = still_books }
+  lawful_accepted built is =
+      let schema = IsSchema-push history.schema accepted lawful.schema built is in
+      record { schema = schema; arrivals = still_arrivals schema; books = still_books }
 
--- what arrives in the table of a number is of its form, and the table has room for it
+-- what arrives in the table of a number came along a path that leads there, and the table has room for it
 pub record MayArrive (history : History) (table : ℕ) (arrival : Arrival) : Type 0 where
-  pub first : 1 ≤ table
-  pub form : TableForm
-  pub stands : slice_get (forms_of history.schema) (table - 1) ≡ Some form
-  pub is : IsArrival form arrival
+  pub numbered : 1 ≤ table
+  pub def : TableDef
+  pub stands : def_at (catalog_of history.schema) table ≡ Some def
+  pub is : IsArrival (catalog_of history.schema) table arrival
   pub room : entries_in history table < MAX_ENTRIES
 
 module _ (history : History) (table : ℕ) (arrival : Arrival) (lawful : IsLawful history) (may : MayArrive history table arrival) where
   abbrev next : History
   next = with_commit table (arrival ∷ []) history
 
-  same_place : (place : ℕ) → place + 1 ≡ table → table - 1 ≡ place
-  same_place place same = omega (arith, same)
+  abbrev catalog : Catalog
+  catalog = catalog_of history.schema
 
-  same_form : (place : ℕ) (form : TableForm) → place + 1 ≡ table → slice_get (forms_of history.schema) place ≡ Some form → may.form ≡ form
-  same_form place form same is = let here : slice_get (forms_of history.schema) place ≡ Some may.form = subst (λ (p : ℕ). slice_get (forms_of history.schema) p ≡ Some may.form) (same_place place same) may.stands in cc (sym here ∙ is)
-
-  here_arrivals : All (IsArrival may.form) (history.arrivals table) → All (IsArrival may.form) (next.arrivals table)
+  here_arrivals : All (IsArrival catalog table) (history.arrivals table) → All (IsArrival catalog table) (next.arrivals table)
   here_arrivals old =
-      subst (All (IsArrival may.form)) (sym (arrivals-with_commit table (arrival ∷ []) history))
-      (elim (is_skipped table arrival history) as (λ (b : Bool). is_skipped table arrival history ≡ b → All (IsArrival may.form) (history.arrivals table ++ written_in table (arrival ∷ []) history)) [
+      subst (All (IsArrival catalog table)) (sym (arrivals-with_commit table (arrival ∷ []) history))
+      (elim (is_skipped table arrival history) as (λ (b : Bool). is_skipped table arrival history ≡ b → All (IsArrival catalog table) (history.arrivals table ++ written_in table (arrival ∷ []) history)) [
         | true ↦ λ skipped.
-            subst (λ (l : List Arrival). All (IsArrival may.form) (history.arrivals table ++ l)) (sym (written_in-skipped table arrival history skipped))
-            (subst (All (IsArrival may.form)) (sym (append-nil (history.arrivals table))) old)
+            subst (λ (l : List Arrival). All (IsArrival catalog table) (history.arrivals table ++ l)) (sym (written_in-skipped table arrival history skipped))
+            (subst (All (IsArrival catalog table)) (sym (append-nil (history.arrivals table))) old)
         | false ↦ λ new.
-            subst (λ (l : List Arrival). All (IsArrival may.form) (history.arrivals table ++ l)) (sym (written_in-new table arrival history new))
-            (All-push (IsArrival may.form) (history.arrivals table) arrival old may.is)
+            subst (λ (l : List Arrival). All (IsArrival catalog table) (history.arrivals table ++ l)) (sym (written_in-new table arrival history new))
+            (All-push (IsArrival catalog table) (history.arrivals table) arrival old may.is)
       ] refl)
 
-  still_arrived : (place : ℕ) (form : TableForm) → slice_get (forms_of history.schema) place ≡ Some form → All (IsArrival form) (next.arrivals (place + 1))
-  still_arrived place form is = elim (cases_eq (place + 1) table) as (λ _. All (IsArrival form) (next.arrivals (place + 1))) [
+  still_arrived : (place : ℕ) (def : TableDef) → slice_get catalog.tables place ≡ Some def → All (IsArrival catalog (place + 1)) (next.arrivals (place + 1))
+  still_arrived place def is = elim (cases_eq (place + 1) table) as (λ _. All (IsArrival catalog (place + 1)) (next.arrivals (place + 1))) [
     | inl same ↦
-        let old : All (IsArrival may.form) (history.arrivals table) =
-        subst (λ (n : ℕ). All (IsArrival may.form) (history.arrivals n)) same (subst (λ (f : TableForm). All (IsArrival f) (history.arrivals (place + 1))) (sym (same_form place form same is)) (lawful.arrivals place form is)) in
-        subst (λ (n : ℕ). All (IsArrival form) (next.arrivals n)) (sym same) (subst (λ (f : TableForm). All (IsArrival f) (next.arrivals table)) (same_form place form same is) (here_arrivals old))
-    | inr other ↦ subst (All (IsArrival form)) (sym (arrivals-other table (place + 1) (arrival ∷ []) history other)) (lawful.arrivals place form is)
+        subst (λ (n : ℕ). All (IsArrival catalog n) (next.arrivals n)) (sym same)
+        (here_arrivals (subst (λ (n : ℕ). All (IsArrival catalog n) (history.arrivals n)) same (lawful.arrivals place def is)))
+    | inr other ↦ subst (All (IsArrival catalog (place + 1))) (sym (arrivals-other table (place + 1) (arrival ∷ []) history other)) (lawful.arrivals place def is)
   ]
 
-  here_book : (place : ℕ) → place + 1 ≡ table → slice_get (forms_of history.schema) place ≡ Some may.form → IsLawfulBook may.form (book_of next table)
-  here_book place same is =
-      let window : window_at (tables_of history.schema) table ≡ may.form.window = subst (λ (n : ℕ). window_at (tables_of history.schema) n ≡ may.form.window) same (window_form (tables_of history.schema) place may.form is) in
-      let old : IsLawfulBook may.form (book_of history table) = subst (λ (n : ℕ). IsLawfulBook may.form (book_of history n)) same (lawful.books place may.form is) in
-      subst (IsLawfulBook may.form) (sym (book_of-arrived table arrival history))
-      (subst (λ (w : ℕ). IsLawfulBook may.form (arrived w (entry_in arrival) (book_of history table))) (sym window)
-      (IsLawfulBook-arrived may.form (entry_in arrival) (book_of history table) (IsEntry-IsArrival may.form arrival may.is) (omega (arith, length-entries history table, may.room)) old))
+  -- the table's book has its entry
+  here_book : IsLawfulBook (form_of may.def) (book_of next table)
+  here_book =
+      let form = form_of may.def in
+      let place : table - 1 + 1 ≡ table = omega (arith, may.numbered) in
+      let window : window_at catalog.tables table ≡ may.def.window = ap window_in may.stands in
+      let old : IsLawfulBook form (book_of history table) = subst (λ (n : ℕ). IsLawfulBook form (book_of history n)) place (lawful.books (table - 1) form (form_there catalog.tables (table - 1) may.def may.stands)) in
+      subst (IsLawfulBook form) (sym (book_of-arrived table arrival history))
+      (subst (λ (w : ℕ). IsLawfulBook form (arrived w (entry_in arrival) (book_of history table))) (sym window)
+      (IsLawfulBook-arrived form (entry_in arrival) (book_of history table) (arrival-entry history.schema lawful.schema table may.def may.stands arrival may.is) (omega (arith, length-entries history table, may.room)) old))
+
+  same_form : (place : ℕ) (form : TableForm) → place + 1 ≡ table → slice_get (forms_of history.schema) place ≡ Some form → form_of may.def ≡ form
+  same_form place form same is =
+      let before : table - 1 ≡ place = omega (arith, same) in
+      let here : slice_get (forms_of history.schema) place ≡ Some (form_of may.def) =
+      subst (λ (p : ℕ). slice_get (forms_of history.schema) p ≡ Some (form_of may.def)) before (form_there catalog.tables (table - 1) may.def may.stands) in
+      cc (sym here ∙ is)
 
   still_lawful_books : (place : ℕ) (form : TableForm) → slice_get (forms_of history.schema) place ≡ Some form → IsLawfulBook form (book_of next (place + 1))
   still_lawful_books place form is = elim (cases_eq (place + 1) table) as (λ _. IsLawfulBook form (book_of next (place + 1))) [
     | inl same ↦
-        let one = same_form place form same is in
         subst (λ (n : ℕ). IsLawfulBook form (book_of next n)) (sym same)
-        (subst (λ (f : TableForm). IsLawfulBook f (book_of next table)) one (here_book place same (subst (λ (f : TableForm). slice_get (forms_of history.schema) place ≡ Some f) (sym one) is)))
+        (subst (λ (f : TableForm). IsLawfulBook f (book_of next table)) (same_form place form same is) here_book)
     | inr other ↦ subst (IsLawfulBook form) (sym (book_of-other table (place + 1) (arrival ∷ []) history other)) (lawful.books place form is)
   ]
 
@@ -178,6 +202,8 @@ module _ (history : History) (table : ℕ) (arrival : Arrival) (lawful : IsLawfu
       let schema = schema-with_commit table (arrival ∷ []) history in
       record {
         schema = subst IsSchema (sym schema) lawful.schema;
-        arrivals = λ place form is. still_arrived place form (subst (λ (s : List Accepted). slice_get (forms_of s) place ≡ Some form) schema is);
+        arrivals = λ place def is.
+            subst (λ (s : List Accepted). All (IsArrival (catalog_of s) (place + 1)) (next.arrivals (place + 1))) (sym schema)
+            (still_arrived place def (subst (λ (s : List Accepted). slice_get (tables_of s) place ≡ Some def) schema is));
         books = λ place form is. still_lawful_books place form (subst (λ (s : List Accepted). slice_get (forms_of s) place ≡ Some form) schema is);
       }

@@ -2,9 +2,11 @@ pub mod AcknowledgedLemmas
 pub mod ArrivingLemmas
 pub mod CommitLemmas
 pub mod EntryLemmas
+pub mod FillingLemmas
 pub mod KeptLemmas
 pub mod LawfulLemmas
 pub mod LeftLemmas
+pub mod LifeLemmas
 pub mod LookupLemmas
 pub mod RequestLemmas
 pub mod RunLemmas

@@ -1,22 +1,40 @@
 -- Which table a name names, and that what is planned, or asked, is for one that stands.
-use Rattle.std.proofs.Common.{◌≡◌, ℕ, zero, suc, ◌+◌, ◌-◌, ◌<◌, ◌≤◌, List, [], ◌∷◌, length, Bool, true, false, Option, None, Some, Ok, Err, IfOk, slice_get, option_map, refl, sym, ap₂, subst, ◌∙◌, arith}
+use Rattle.std.proofs.Common.{◌≡◌, ℕ, zero, suc, ◌+◌, ◌-◌, ◌<◌, ◌≤◌, List, [], ◌∷◌, length, Bool, true, false, Option, None, Some, Ok, Err, IfOk, slice_get, option_map, refl, sym, ap, ap₂, subst, ◌∙◌, arith}
 use Rattle.std.specs.Prelude.{Result, nat_lt}
 use Rattle.std.specs.List.{All, list_any}
-use Rattle.std.proofs.lemmas.List.Elements.{All-cons, All-nil, All-weaker}
+use Rattle.std.proofs.lemmas.List.{length-append}
+use Rattle.std.proofs.lemmas.List.Elements.{All-append, All-cons, All-filter, All-map, All-nil, All-weaker}
+use Rattle.std.proofs.lemmas.Option.{slice_get_within}
 use Rattle.chv_ast.specs.declared.refusal.Refusal.{Refusal}
-use Rattle.chv_ast.specs.declared.refusal.Refusal.TheVariants.{UnknownTable, UnknownColumn, NameTaken, TypeMismatch, LimitPassed}
+use Rattle.chv_ast.specs.declared.refusal.Refusal.TheVariants.{UnknownTable, UnknownColumn, NameTaken, TypeMismatch, DivisionByZero, LimitPassed}
 use Rattle.chv_ast.specs.declared.statement.Insert.{Insert}
 use Rattle.chv_ast.specs.declared.statement.Select.{Select}
+use Rattle.chv_ast.specs.declared.statement.Statement.{Statement}
+use Rattle.chv_block.specs.Blocks.{blocks_of}
+use Rattle.chv_block.specs.declared.squasher.Sizes.{Sizes}
 use Rattle.chv_catalog.specs.Checks.{has_repeat, is_unknown, is_state, places_of}
+use Rattle.chv_catalog.specs.Paths.{IsPath, MAX_PATH, end_of, links_of, paths_from, target_of}
+use Rattle.chv_catalog.specs.Walks.{IsPathWithin}
+use Rattle.chv_catalog.specs.Schemas.{Catalog, columns_of, kinds_of, table_names, with_definition}
+use Rattle.chv_catalog.specs.declared.definition.Definition.{Definition}
+use Rattle.chv_catalog.specs.declared.definition.Definition.TheVariants.{Table, View}
+use Rattle.chv_catalog.specs.declared.link.Link.{Link}
+use Rattle.chv_catalog.specs.declared.table_def.TableDef.{TableDef}
+use Rattle.chv_catalog.specs.declared.view_def.ViewDef.{ViewDef}
+use Rattle.chv_catalog.proofs.PathLemmas.{paths_from-are}
+use Rattle.chv_catalog.proofs.SchemaLemmas.{place_of-within, length-table_names}
+use Rattle.chv_part.specs.Books.{MAX_ROWS}
+use Rattle.chv_query.specs.Accepted.{Accepted, Defines, IsSchema, catalog_of}
+use Rattle.chv_query.specs.Arrivals.{end_at}
 use Rattle.chv_query.specs.Outputs.{filter_of}
+use Rattle.chv_query.specs.Plans.{Delivery, block_deliveries, deliveries_for, deliveries_of, delivery_along, divides_below, filled_names, is_long, kinds_at, paths_for, planned, planned_for, rows_for, sized_rows, sizes_for, source_of}
 use Rattle.chv_query.specs.Queries.{Asked, asked, asked_of, limit_of, sorts_of}
 use Rattle.chv_query.specs.Shapes.{shape_of}
 use Rattle.chv_query.specs.Tables.{table_of}
-use Rattle.chv_catalog.specs.Schemas.{Catalog, columns_of, kinds_of, table_names}
-use Rattle.chv_catalog.specs.declared.table_def.TableDef.{TableDef}
-use Rattle.chv_catalog.proofs.SchemaLemmas.{place_of-within, length-table_names}
-use Rattle.chv_part.specs.Books.{MAX_ROWS}
-use Rattle.chv_query.specs.Plans.{Delivery, deliveries_of, filled_names, is_long, kinds_at, planned, planned_for, rows_for, sizes_for}
+use Rattle.chv_query.proofs.AcceptedLemmas.{defines_view}
+use Rattle.chv_query.proofs.GrowthLemmas.{All-at, IsViewIn, linked, schema-views}
+use Rattle.chv_query.proofs.ViewLemmas.{passed_view}
+use Rattle.chv_sip.specs.BlockIds.{SourceKey}
 use Rattle.chv_types.specs.Names.{place_of}
 use Rattle.chv_types.specs.Steps.{refuse_if, and_then}
 use Rattle.chv_types.specs.declared.value.Value.{Value}
@@ -66,59 +84,6 @@ unnamed_by catalog name (Some place) found is = absurd (cc is)
 -- and one that is not, is of none
 pub table_of-none : (catalog : Catalog) (name : List ℕ) → option_map (λ place. place + 1) (place_of name (table_names catalog.tables)) ≡ None → table_of catalog name ≡ Err UnknownTable
 table_of-none catalog name is = unnamed_by catalog name (place_of name (table_names catalog.tables)) refl is
-
--- what holds of each step holds of the whole
-if_ok-and_then : {A B : Type 0} (r : Result A Refusal) (rest : A → Result B Refusal) (P : A → Type 0) (Q : B → Type 0) → IfOk r P → ((a : A) → P a → IfOk (rest a) Q) → IfOk (and_then r rest) Q
-if_ok-and_then (Ok a) rest P Q holds then = then a holds
-if_ok-and_then (Err refusal) rest P Q holds then = tt
-
--- what passes all checks is planned
-checked-plan : {A S : Type 0} (unknown twice state long many : Bool) (sizes : Result S Refusal) (rows : Result A Refusal) (plan : S → A → List Delivery) (P : List Delivery → Type 0) → ((s : S) (a : A) → P (plan s a))
-    → IfOk (refuse_if unknown UnknownColumn (refuse_if twice NameTaken (refuse_if state TypeMismatch (and_then sizes (λ s. refuse_if long LimitPassed (refuse_if many LimitPassed (and_then rows (λ a. Ok (plan s a))))))))) P
-checked-plan true twice state long many sizes rows plan P so = tt
-checked-plan false true state long many sizes rows plan P so = tt
-checked-plan false false true long many sizes rows plan P so = tt
-checked-plan false false false long many (Err refusal) rows plan P so = tt
-checked-plan false false false true many (Ok s) rows plan P so = tt
-checked-plan false false false false true (Ok s) rows plan P so = tt
-checked-plan false false false false false (Ok s) (Err refusal) plan P so = tt
-checked-plan false false false false false (Ok s) (Ok a) plan P so = so s a
-
--- an insert's blocks are delivered to its table
-deliveries_of-table : (table : ℕ) (def : TableDef) (token : Option (List ℕ)) (number : ℕ) (blocks : List (List (List Value))) → All (λ (d : Delivery). d.table ≡ table) (deliveries_of table def token number blocks)
-deliveries_of-table table def token number [] = All-nil (λ (d : Delivery). d.table ≡ table)
-deliveries_of-table table def token number (block ∷ blocks) =
-    All-cons (λ (d : Delivery). d.table ≡ table) _ (deliveries_of table def token (number + 1) blocks) refl (deliveries_of-table table def token (number + 1) blocks)
-
--- so is what an insert into a table brings
-planned_for-table : (table : ℕ) (def : TableDef) (brought : Insert) → IfOk (planned_for table def brought) (λ plan. All (λ (d : Delivery). d.table ≡ table) plan)
-planned_for-table table def brought =
-    let settings = brought.settings in
-    let names = filled_names (columns_of def) brought.columns in
-    let places = places_of (columns_of def) names in
-    checked-plan (list_any (is_unknown (columns_of def)) names) (has_repeat names) (list_any is_state (kinds_at (kinds_of def) places)) (is_long settings.token) (nat_lt MAX_ROWS (length brought.rows)) (sizes_for settings)
-    (rows_for (kinds_of def) places brought.rows) (λ sizes written. deliveries_of table def settings.token 0 _) (λ plan. All (λ (d : Delivery). d.table ≡ table) plan)
-    (λ sizes written. deliveries_of-table table def settings.token 0 _)
-
--- the number of a table that is found is one of the tables
-table_of-within : (catalog : Catalog) (name : List ℕ) → IfOk (table_of catalog name) (λ found. (1 ≤ found.0) × (found.0 ≤ length catalog.tables))
-table_of-within catalog name = by (place_of name (table_names catalog.tables)) refl
-  where
-    by : (place : Option ℕ) → place_of name (table_names catalog.tables) ≡ place → IfOk (table_of catalog name) (λ found. (1 ≤ found.0) × (found.0 ≤ length catalog.tables))
-    by None found = rw found tt
-    by (Some place) found = let named = named_at catalog name place found in rw named.is (named.first, named.last)
-
--- each delivery that is planned has a table
-pub planned-within : (catalog : Catalog) (brought : Insert) → IfOk (planned catalog brought) (λ plan. All (λ (d : Delivery). (1 ≤ d.table) × (d.table ≤ length catalog.tables)) plan)
-unfolding planned
-planned-within catalog brought =
-    if_ok-and_then (table_of catalog brought.table) _ (λ found. (1 ≤ found.0) × (found.0 ≤ length catalog.tables)) (λ (plan : List Delivery). All (λ (d : Delivery). (1 ≤ d.table) × (d.table ≤ length catalog.tables)) plan) (table_of-within catalog brought.table)
-    (λ found known. weaker (planned_for found.0 found.1 brought) found.0 known (planned_for-table found.0 found.1 brought))
-  where
-    weaker : (r : Result (List Delivery) Refusal) (number : ℕ) → (1 ≤ number) × (number ≤ length catalog.tables) → IfOk r (λ plan. All (λ (d : Delivery). d.table ≡ number) plan)
-        → IfOk r (λ plan. All (λ (d : Delivery). (1 ≤ d.table) × (d.table ≤ length catalog.tables)) plan)
-    weaker (Ok plan) number known same = All-weaker (λ (d : Delivery). d.table ≡ number) (λ (d : Delivery). (1 ≤ d.table) × (d.table ≤ length catalog.tables)) (λ d is. (omega (arith, known.0, is), omega (arith, known.1, is))) plan same
-    weaker (Err refusal) number known same = tt
 
 -- one table is found
 pub one_found : (p q : ℕ × TableDef) → ◌≡◌ {A = Result (ℕ × TableDef) Refusal} (Ok p) (Ok q) → p ≡ q
@@ -170,3 +135,108 @@ asked_by catalog select query (Err refusal) is asks = absurd (cc asks)
 pub asked_stands : (catalog : Catalog) (select : Select) (query : Asked) → asked catalog select ≡ Ok query → IsFound catalog select.table (query.table, query.def)
 unfolding asked
 asked_stands catalog select query asks = asked_by catalog select query (table_of catalog select.table) refl asks
+
+-- the number of a table that stands
+abbrev pub StandsIn : Catalog → ℕ → Type 0
+StandsIn catalog table = (1 ≤ table) × (table ≤ length catalog.tables)
+
+-- a delivery goes to a table that stands
+abbrev pub GoesTo : Catalog → Delivery → Type 0
+GoesTo catalog d = StandsIn catalog d.table
+
+-- what passes all checks is planned
+checked-plan : {A S : Type 0} (unknown twice state long many : Bool) (sizes : Result S Refusal) (rows : Result A Refusal) (plan : S → A → Result (List Delivery) Refusal) (P : List Delivery → Type 0)
+    → ((s : S) (a : A) → IfOk (plan s a) P)
+    → IfOk (refuse_if unknown UnknownColumn (refuse_if twice NameTaken (refuse_if state TypeMismatch (and_then sizes (λ s. refuse_if long LimitPassed (refuse_if many LimitPassed (and_then rows (plan s)))))))) P
+checked-plan true twice state long many sizes rows plan P so = tt
+checked-plan false true state long many sizes rows plan P so = tt
+checked-plan false false true long many sizes rows plan P so = tt
+checked-plan false false false long many (Err refusal) rows plan P so = tt
+checked-plan false false false true many (Ok s) rows plan P so = tt
+checked-plan false false false false true (Ok s) rows plan P so = tt
+checked-plan false false false false false (Ok s) (Err refusal) plan P so = tt
+checked-plan false false false false false (Ok s) (Ok a) plan P so = so s a
+
+undivided : (divides : Bool) (plan : List Delivery) (P : List Delivery → Type 0) → P plan → IfOk (refuse_if divides DivisionByZero (Ok plan)) P
+undivided true plan P holds = tt
+undivided false plan P holds = holds
+
+-- each view of a catalog fills a table that stands
+abbrev pub AreFilling : Catalog → Type 0
+AreFilling catalog = All (λ (view : ViewDef). StandsIn catalog view.target) catalog.views
+
+-- so do the views of a schema
+pub schema-filling : (schema : List Accepted) → IsSchema schema → AreFilling (catalog_of schema)
+schema-filling schema lawful =
+    let catalog = catalog_of schema in
+    All-weaker (IsViewIn catalog) (λ (view : ViewDef). StandsIn catalog view.target)
+    (λ view is. (is.target_numbered, omega (arith, is.target_numbered, slice_get_within catalog.tables (view.target - 1) is.target is.writes))) catalog.views (schema-views schema lawful)
+
+-- and with a definition more
+pub filling-more : (definition : Definition) (catalog : Catalog) (s : Statement) → Defines catalog s definition → AreFilling catalog → AreFilling (with_definition definition catalog)
+filling-more (Table new) catalog s defines filling =
+    All-weaker (λ (view : ViewDef). StandsIn catalog view.target) (λ (view : ViewDef). StandsIn (with_definition (Table new) catalog) view.target)
+    (λ view is. (is.0, omega (arith, is.1, length-append catalog.tables (new ∷ [])))) catalog.views filling
+filling-more (View new) catalog s defines filling =
+    let Filling : ViewDef → Type 0 = λ view. StandsIn catalog view.target in
+    let view = defines_view catalog s new defines in
+    let checks = passed_view catalog view.made new view.defines in
+    let target = table_of-found catalog view.made.target checks.target checks.target_is in
+    All-append Filling catalog.views (new ∷ []) filling (All-cons Filling new [] (subst Filling checks.is (target.first, target.last)) (All-nil Filling))
+
+-- where each view fills a table that stands, a path from one ends at one
+ends_within : (catalog : Catalog) → AreFilling catalog → (table : ℕ) (path : List ℕ) → StandsIn catalog table → IsPath (links_of catalog.views) table path → StandsIn catalog (end_at catalog table path)
+ends_within catalog filling table [] within is = within
+ends_within catalog filling table (view ∷ path) within is =
+    let links = links_of catalog.views in
+    let there = linked catalog view is.0 is.1 in
+    let filled = All-at (λ (v : ViewDef). StandsIn catalog v.target) catalog.views view there.def filling there.at in
+    let same : there.def.target ≡ is.0.target = ap (λ (link : Link). link.target) there.is in
+    let next : target_of links view ≡ is.0.target = rw is.1 refl in
+    subst (λ (t : ℕ). StandsIn catalog (end_of links t path)) (sym next) (ends_within catalog filling is.0.target path (subst (StandsIn catalog) same filled) is.3)
+
+-- so blocks are delivered to tables that stand
+module _ (catalog : Catalog) (filling : AreFilling catalog) (table : ℕ) (def : TableDef) (within : StandsIn catalog table) where
+  along : (source : SourceKey) (block : List (List Value)) (path : List ℕ) → IsPath (links_of catalog.views) table path → GoesTo catalog (delivery_along catalog table source block path)
+  along source block path is = ends_within catalog filling table path within is
+
+  block_goes : (source : SourceKey) (block : List (List Value)) → All (GoesTo catalog) (block_deliveries catalog table source block)
+  block_goes source block =
+      let links = links_of catalog.views in
+      let Goes : List ℕ → Type 0 = λ path. GoesTo catalog (delivery_along catalog table source block path) in
+      let paths = paths_from links table in
+      All-map (GoesTo catalog) (delivery_along catalog table source block) (paths_for catalog table block)
+      (All-cons Goes [] _ (along source block [] tt)
+      (All-filter _ Goes paths (All-weaker (IsPathWithin MAX_PATH links table) Goes (λ path is. along source block path is.is_path) paths (paths_from-are links table))))
+
+  deliveries_go : (token : Option (List ℕ)) (number : ℕ) (blocks : List (List (List Value))) → All (GoesTo catalog) (deliveries_of catalog table (kinds_of def) token number blocks)
+  deliveries_go token number [] = All-nil (GoesTo catalog)
+  deliveries_go token number (block ∷ blocks) =
+      let source = source_of (kinds_of def) token number block in
+      All-append (GoesTo catalog) (block_deliveries catalog table source block) (deliveries_of catalog table (kinds_of def) token (number + 1) blocks)
+      (block_goes source block) (deliveries_go token (number + 1) blocks)
+
+  -- so is what an insert into a table brings
+  planned_for-goes : (brought : Insert) → IfOk (planned_for catalog table def brought) (All (GoesTo catalog))
+  planned_for-goes brought =
+      let settings = brought.settings in
+      let names = filled_names (columns_of def) brought.columns in
+      let places = places_of (columns_of def) names in
+      let blocks : Sizes → List (List Value) → List (List (List Value)) = λ sizes written. blocks_of sizes (sized_rows (kinds_of def) written) in
+      checked-plan (list_any (is_unknown (columns_of def)) names) (has_repeat names) (list_any is_state (kinds_at (kinds_of def) places)) (is_long settings.token) (nat_lt MAX_ROWS (length brought.rows)) (sizes_for settings)
+      (rows_for (kinds_of def) places brought.rows) (λ sizes written. deliveries_for catalog table def settings.token (blocks sizes written)) (All (GoesTo catalog))
+      (λ sizes written.
+      undivided (list_any (divides_below catalog table) (blocks sizes written)) (deliveries_of catalog table (kinds_of def) settings.token 0 (blocks sizes written)) (All (GoesTo catalog))
+      (deliveries_go settings.token 0 (blocks sizes written)))
+
+goes_by : (catalog : Catalog) → AreFilling catalog → (brought : Insert) (found : Result (ℕ × TableDef) Refusal) → table_of catalog brought.table ≡ found
+    → IfOk (and_then found (λ f. planned_for catalog f.0 f.1 brought)) (All (GoesTo catalog))
+goes_by catalog filling brought (Ok found) is =
+    let at = table_of-found catalog brought.table found is in
+    planned_for-goes catalog filling found.0 found.1 (at.first, at.last) brought
+goes_by catalog filling brought (Err refusal) is = tt
+
+-- each delivery that is planned goes to a table
+pub planned-within : (catalog : Catalog) → AreFilling catalog → (brought : Insert) → IfOk (planned catalog brought) (All (GoesTo catalog))
+unfolding planned
+planned-within catalog filling brought = goes_by catalog filling brought (table_of catalog brought.table) refl

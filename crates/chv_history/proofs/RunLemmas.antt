@@ -5,13 +5,8 @@ use Rattle.std.proofs.lemmas.Bool.{and_parts, cases_eq, eq-eqb, ltb-false, ne_eq
 use Rattle.std.proofs.lemmas.List.Elements.{All-cons, All-head, All-nil, All-tail, All-weaker}
 use Rattle.chv_ast.specs.declared.refusal.Refusal.{Refusal}
 use Rattle.chv_ast.specs.declared.statement.Insert.{Insert}
-use Rattle.chv_ast.specs.declared.statement.Statement.TheVariants as statement
-use Rattle.chv_catalog.specs.Schemas.{kinds_of, no_definitions}
-use Rattle.chv_catalog.specs.declared.table_def.TableDef.{TableDef}
 use Rattle.chv_commit.specs.Replays.{MAX_ENTRIES}
-use Rattle.chv_query.specs.Accepted.{Accepted, IsAccepted, catalog_of, is_built_create, tables_of}
-use Rattle.chv_query.proofs.AcceptedLemmas.{IsMade, all_made}
-use Rattle.chv_part.specs.Forms.{form_of}
+use Rattle.chv_query.specs.Accepted.{Accepted, IsAccepted, catalog_of, is_built_create}
 use Rattle.chv_query.specs.Plans.{Delivery, planned}
 use Rattle.chv_query.proofs.ArrivalLemmas.{ArrivesIn, planned-arrives}
 use Rattle.chv_history.specs.Events.{Event, Plan, Moment, behind, happen}
@@ -21,7 +16,7 @@ use Rattle.chv_history.specs.Script.{Request, AreFormed, IsFormed}
 use Rattle.chv_history.specs.Tasks.{Task, Bring, Make, TellParts, TellRows, deliveries_to, has_room, task_of}
 use Rattle.chv_history.proofs.CommitLemmas.{arrivals-other, is_skipped, schema-with_commit, written_in-new, written_in-skipped}
 use Rattle.chv_history.proofs.EntryLemmas.{entries_in-commit}
-use Rattle.chv_history.proofs.LawfulLemmas.{MayArrive, form_there, lawful_accepted, lawful_arrived}
+use Rattle.chv_history.proofs.LawfulLemmas.{MayArrive, lawful_accepted, lawful_arrived}
 use Rattle.chv_history.proofs.TaskLemmas.{task_holds}
 use Rattle.chv_history.proofs.WhileLemmas.{While, while_behind, while_last, while_run, while-append}
 
@@ -65,25 +60,25 @@ fits_behind d plan history e fits = elim (cases_eq d.table e.table) as (λ _. Fi
 
 -- a plan whose deliveries arrive in tables that have room
 pub record MayBring (history : History) (plan : Plan) : Type 0 where
-  pub arrive : All (ArrivesIn (tables_of history.schema)) plan
+  pub arrive : All (ArrivesIn (catalog_of history.schema)) plan
   pub fit : All (Fits plan history) plan
 
 module _ (d : Delivery) (plan : Plan) (history : History) (may : MayBring history (d ∷ plan)) where
   pub may_first : MayArrive history d.table d.entry
   may_first =
-      let arrives = All-head (ArrivesIn (tables_of history.schema)) d plan may.arrive in
+      let arrives = All-head (ArrivesIn (catalog_of history.schema)) d plan may.arrive in
       let fits = All-head (Fits (d ∷ plan) history) d plan may.fit in
       record {
-        first = arrives.first;
-        form = form_of arrives.def;
-        stands = form_there (tables_of history.schema) (d.table - 1) arrives.def arrives.stands;
+        numbered = arrives.numbered;
+        def = arrives.def;
+        stands = arrives.stands;
         is = arrives.arrives;
         room = omega (arith, fits.room, deliveries_here d.table d plan refl);
       }
 
   pub may_rest : MayBring (delivered d history) plan
   may_rest = record {
-    arrive = subst (λ (s : List Accepted). All (ArrivesIn (tables_of s)) plan) (sym (schema-with_commit d.table (d.entry ∷ []) history)) (All-tail (ArrivesIn (tables_of history.schema)) d plan may.arrive);
+    arrive = subst (λ (s : List Accepted). All (ArrivesIn (catalog_of s)) plan) (sym (schema-with_commit d.table (d.entry ∷ []) history)) (All-tail (ArrivesIn (catalog_of history.schema)) d plan may.arrive);
     fit = All-weaker (Fits (d ∷ plan) history) (Fits plan (delivered d history)) (fits_behind d plan history) plan (All-tail (Fits (d ∷ plan) history) d plan may.fit);
   }
 
@@ -112,7 +107,7 @@ all_fit plan history room =
 -- a plan is one that the history's tables may have
 pub may_bring : (asked : Insert) (plan : Plan) (history : History) → IsLawful history → planned (catalog_of history.schema) asked ≡ Ok plan → has_room plan (entries_in history) ≡ true → MayBring history plan
 may_bring asked plan history lawful brings room =
-    record { arrive = planned-arrives (catalog_of history.schema) asked plan brings; fit = all_fit plan history room }
+    record { arrive = planned-arrives history.schema lawful.schema asked plan brings; fit = all_fit plan history room }
 
 -- a task that keeps a history lawful
 abbrev pub TaskSound : History → Task → Type 0
@@ -124,7 +119,7 @@ TaskSound history (TellParts table def) = Unit {0}
 pub sound_task : (request : Request) (history : History) → IsLawful history → IsFormed request → IfOk (task_of (catalog_of history.schema) (entries_in history) request.statement) (TaskSound history)
 sound_task request history lawful formed =
     task_holds (catalog_of history.schema) (entries_in history) (TaskSound history) (λ select query asks. tt) (λ table def. tt) request.statement
-    (λ made is def built defines. (built, record { formed = formed (statement.CreateTable made) is; defines = defines }))
+    (λ accepted is built defines. (built, record { formed = formed accepted.statement is; defines = defines }))
     (λ brought is plan brings room. may_bring brought plan history lawful brings room)
 
 lawful_task : (client : ℕ) (task : Task) (done : List Event) (m : Moment) → TaskSound m.history task → IsLawful m.history → While Lawful done (task_events client task m.history) m

@@ -5,7 +5,7 @@ use Rattle.std.proofs.lemmas.List.Elements.{All-weaker}
 use Rattle.chv_commit.specs.Commits.{commit_spelling}
 use Rattle.chv_query.specs.Accepted.{Accepted, catalog_payload, tables_in, tables_of}
 use Rattle.chv_gate.specs.GateLog.{HasFrames}
-use Rattle.chv_part.specs.Books.{TableForm, Book, arrived, no_book, part_rows}
+use Rattle.chv_part.specs.Books.{TableForm, Book, arrived, part_rows}
 use Rattle.chv_part.specs.Forms.{form_of}
 use Rattle.chv_part.specs.Parts.{IsPartFile}
 use Rattle.chv_part.specs.Standing.{FilesStand, IsPart, TableStands}
@@ -19,7 +19,7 @@ use Rattle.chv_history.specs.Crashes.{IsLeftBy}
 use Rattle.chv_history.specs.Events.{Event, begins, with_commit}
 use Rattle.chv_history.specs.Histories.{History, IsLawful, Settles, Stands, book_of, forms_of, put_at, window_at, with_accepted}
 use Rattle.chv_history.proofs.CommitLemmas.{schema-with_commit}
-use Rattle.chv_history.proofs.EntryLemmas.{books-accepted, books-arrived}
+use Rattle.chv_history.proofs.EntryLemmas.{books-accepted, books-arrived, with_new_book}
 use Rattle.chv_history.proofs.LawfulLemmas.{forms_of-push}
 use Rattle.chv_history.proofs.LeftLemmas.{left_still}
 
@@ -56,11 +56,11 @@ stands_arrived image table arrival history lawful stand =
 -- and behind a statement that is accepted
 pub stands_accepted : (image : Image) (accepted : Accepted) (history : History) → IsLawful (with_accepted accepted history)
     → FilesStand image (map catalog_payload history.schema ++ catalog_payload accepted ∷ []) (forms_of history.schema ++ map form_of (tables_in accepted.definition))
-    (put_at (length (tables_of history.schema) + 1) no_book (book_of history))
+    (with_new_book accepted.definition (length (tables_of history.schema) + 1) (book_of history))
     → Stands image (with_accepted accepted history)
 stands_accepted image accepted history lawful stand =
     stands_by image (with_accepted accepted history) (map catalog_payload history.schema ++ catalog_payload accepted ∷ []) (forms_of history.schema ++ map form_of (tables_in accepted.definition))
-    (put_at (length (tables_of history.schema) + 1) no_book (book_of history))
+    (with_new_book accepted.definition (length (tables_of history.schema) + 1) (book_of history))
     lawful (sym (map_push catalog_payload history.schema accepted)) (sym (forms_of-push history.schema accepted)) (books-accepted accepted history) stand
 
 -- files with the same bytes stand for the same books

@@ -3,36 +3,51 @@ use Rattle.std.proofs.Common.{◌≡◌, ℕ, Bool, true, false, not, Option, No
 use Rattle.chv_ast.specs.declared.refusal.Refusal.{Refusal}
 use Rattle.chv_ast.specs.declared.refusal.Refusal.TheVariants.{LimitPassed, NotBuilt}
 use Rattle.chv_ast.specs.declared.statement.CreateTable.{CreateTable}
+use Rattle.chv_ast.specs.declared.statement.CreateView.{CreateView}
 use Rattle.chv_ast.specs.declared.statement.Insert.{Insert}
 use Rattle.chv_ast.specs.declared.statement.Select.{Select}
 use Rattle.chv_ast.specs.declared.statement.Statement.{Statement}
 use Rattle.chv_ast.specs.declared.statement.Statement.TheVariants as statement
 use Rattle.chv_catalog.specs.Schemas.{Catalog}
+use Rattle.chv_catalog.specs.declared.definition.Definition.TheVariants.{Table, View}
 use Rattle.chv_catalog.specs.declared.table_def.TableDef.{TableDef}
-use Rattle.chv_query.specs.Accepted.{Table, is_built_table}
+use Rattle.chv_catalog.specs.declared.view_def.ViewDef.{ViewDef}
+use Rattle.chv_query.specs.Accepted.{Accepted, Defines, is_built_create, is_built_table}
 use Rattle.chv_query.specs.Definitions.{defined}
 use Rattle.chv_query.specs.Tables.{table_of}
 use Rattle.chv_query.specs.Plans.{planned}
 use Rattle.chv_query.specs.Queries.{Asked, asked}
+use Rattle.chv_query.specs.Views.{defined_view}
 use Rattle.chv_types.specs.Steps.{and_then, refuse_if}
 use Rattle.chv_history.specs.Built.{is_built}
 use Rattle.chv_history.specs.Events.{Plan}
 use Rattle.chv_history.specs.Tasks.{Task, Bring, Make, TellParts, TellRows, built_task, has_room, task_of}
 
--- a fact of each task holds of the one of a statement: of a table that the statement makes; of blocks that it brings, for which
--- there is room; of a query whose rows it tells; and of a table whose parts it tells
+-- a fact of each task holds of the one of a statement: of what the statement makes; of blocks that it brings, for which there is
+-- room; of a query whose rows it tells; and of a table whose parts it tells
 module _ (catalog : Catalog) (entries : ℕ → ℕ) (Holds : Task → Type 0)
     (rows : (select : Select) (query : Asked) → asked catalog select ≡ Ok query → Holds (TellRows query)) (parts : (table : ℕ) (def : TableDef) → Holds (TellParts table def)) where
-  abbrev Makes : CreateTable → Type 0
-  Makes made = (def : TableDef) → is_built_table made ≡ true → defined catalog made ≡ Ok def → Holds (Make (record { statement = statement.CreateTable made; definition = Table def }))
+  abbrev Makes : Accepted → Type 0
+  Makes accepted = is_built_create accepted.statement ≡ true → Defines catalog accepted.statement accepted.definition → Holds (Make accepted)
 
   abbrev Brings : Insert → Type 0
   Brings brought = (plan : Plan) → planned catalog brought ≡ Ok plan → has_room plan entries ≡ true → Holds (Bring plan)
 
-  made_by : (made : CreateTable) (def : Result TableDef Refusal) → defined catalog made ≡ def → is_built_table made ≡ true → Makes made
+  abbrev MakesOf : Statement → Type 0
+  MakesOf s = (accepted : Accepted) → s ≡ accepted.statement → Makes accepted
+
+  abbrev BringsOf : Statement → Type 0
+  BringsOf s = (brought : Insert) → s ≡ statement.Insert brought → Brings brought
+
+  table_by : (made : CreateTable) (def : Result TableDef Refusal) → defined catalog made ≡ def → is_built_table made ≡ true → MakesOf (statement.CreateTable made)
       → IfOk (and_then def (λ d. Ok (Make (record { statement = statement.CreateTable made; definition = Table d })))) Holds
-  made_by made (Ok def) defines built make = make def built defines
-  made_by made (Err refuses) defines built make = tt
+  table_by made (Ok def) defines built make = make (record { statement = statement.CreateTable made; definition = Table def }) refl built defines
+  table_by made (Err refuses) defines built make = tt
+
+  view_by : (made : CreateView) (def : Result ViewDef Refusal) → defined_view catalog made ≡ def → MakesOf (statement.CreateView made)
+      → IfOk (and_then def (λ d. Ok (Make (record { statement = statement.CreateView made; definition = View d })))) Holds
+  view_by made (Ok def) defines make = make (record { statement = statement.CreateView made; definition = View def }) refl refl defines
+  view_by made (Err refuses) defines make = tt
 
   room_by : (room : Bool) (brought : Insert) (plan : Plan) → has_room plan entries ≡ room → planned catalog brought ≡ Ok plan → Brings brought → IfOk (refuse_if (not room) LimitPassed (Ok (Bring plan))) Holds
   room_by true brought plan room brings bring = bring plan brings room
@@ -50,19 +65,13 @@ module _ (catalog : Catalog) (entries : ℕ → ℕ) (Holds : Task → Type 0)
   parts_by (Ok found) = parts found.0 found.1
   parts_by (Err refuses) = tt
 
-  abbrev MakesOf : Statement → Type 0
-  MakesOf s = (made : CreateTable) → s ≡ statement.CreateTable made → Makes made
-
-  abbrev BringsOf : Statement → Type 0
-  BringsOf s = (brought : Insert) → s ≡ statement.Insert brought → Brings brought
-
   built_by : (s : Statement) → is_built s ≡ true → MakesOf s → BringsOf s → IfOk (built_task catalog entries s) Holds
   unfolding is_built
-  built_by (statement.CreateTable made) built make bring = made_by made (defined catalog made) refl built (make made refl)
+  built_by (statement.CreateTable made) built make bring = table_by made (defined catalog made) refl built make
+  built_by (statement.CreateView made) built make bring = view_by made (defined_view catalog made) refl make
   built_by (statement.Insert brought) built make bring = brought_by brought (planned catalog brought) refl (bring brought refl)
   built_by (statement.Query select) built make bring = rows_by select (asked catalog select) refl
   built_by (statement.ShowParts parts) built make bring = parts_by (table_of catalog parts.table)
-  built_by (statement.CreateView made) built make bring = tt
   built_by (statement.Optimize parts) built make bring = tt
   built_by statement.FlushQueue built make bring = tt
 
@@ -71,7 +80,7 @@ module _ (catalog : Catalog) (entries : ℕ → ℕ) (Holds : Task → Type 0)
   checked_by false s built make bring = tt
 
   pub task_holds : (s : Option Statement)
-      → ((made : CreateTable) → s ≡ Some (statement.CreateTable made) → Makes made) → ((brought : Insert) → s ≡ Some (statement.Insert brought) → Brings brought)
+      → ((accepted : Accepted) → s ≡ Some accepted.statement → Makes accepted) → ((brought : Insert) → s ≡ Some (statement.Insert brought) → Brings brought)
       → IfOk (task_of catalog entries s) Holds
   task_holds None make bring = tt
-  task_holds (Some s) make bring = checked_by (is_built s) s refl (λ made is. make made (ap Some is)) (λ brought is. bring brought (ap Some is))
+  task_holds (Some s) make bring = checked_by (is_built s) s refl (λ accepted is. make accepted (ap Some is)) (λ brought is. bring brought (ap Some is))

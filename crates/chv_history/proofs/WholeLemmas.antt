@@ -1,37 +1,41 @@
 -- What is acknowledged stands whole.
-use Rattle.std.proofs.Common.{◌≡◌, inl, inr, ℕ, zero, suc, ◌+◌, ◌-◌, Bool, true, false, List, [], ◌∷◌, ◌++◌, length, map, Some, Result, Ok, Err, IfOk, slice_get, All, Contains, refl, sym, ap, ap₂, subst, ◌∙◌, arith, if◌then◌else◌, ◌==◌, eq-eqb, append_assoc}
+use Rattle.std.proofs.Common.{◌≡◌, inl, inr, ℕ, ◌+◌, ◌-◌, ◌≤◌, Bool, true, false, Option, List, [], ◌∷◌, ◌++◌, length, map, Some, Result, Ok, Err, IfOk, All, Contains, refl, sym, ap, ap₂, subst, ◌∙◌, arith, if◌then◌else◌, ◌==◌, eq-eqb, append_assoc}
 use Rattle.std.proofs.lemmas.Bool.{cases_eq}
 use Rattle.std.proofs.lemmas.List.{append-nil, get_or-map, length-map}
 use Rattle.std.proofs.lemmas.List.Elements.{All-cons, All-contains, All-contains_itself, All-map, All-nil, All-push, All-weaker, Contains-append_cases, Contains-append_left, Contains-append_right, Contains-push}
 use Rattle.chv_ast.specs.declared.refusal.Refusal.{Refusal}
-use Rattle.chv_block.specs.Spellings.{block_spelling}
+use Rattle.chv_block.specs.Spellings.{AllAreOf}
 use Rattle.chv_block.proofs.LawLemmas.{one_block}
+use Rattle.chv_catalog.specs.Schemas.{Catalog, kinds_of}
 use Rattle.chv_catalog.specs.declared.table_def.TableDef.{TableDef}
-use Rattle.chv_query.specs.Accepted.{Accepted, Definition, catalog_of, tables_in, tables_of}
-use Rattle.chv_query.proofs.AcceptedLemmas.{tables_of-push}
+use Rattle.chv_query.specs.Accepted.{Accepted, IsSchema, catalog_of, tables_of}
+use Rattle.chv_query.specs.Derived.{def_at}
+use Rattle.chv_query.proofs.AcceptedLemmas.{IsSchema-push, catalog_of-push}
+use Rattle.chv_query.proofs.ArrivalLemmas.{ArrivesIn}
+use Rattle.chv_query.proofs.GrowthLemmas.{IsArrival-more, def_at-more}
 use Rattle.chv_part.specs.Arriving.{fresh}
-use Rattle.chv_part.specs.Books.{TableForm, Entry}
+use Rattle.chv_part.specs.Books.{Entry, MAX_ROWS}
 use Rattle.chv_part.specs.Forms.{form_of}
 use Rattle.chv_part.specs.Naming.{Names}
 use Rattle.chv_part.proofs.BookLemmas.{All-fresh}
-use Rattle.chv_query.specs.Arrivals.{Arrival, IsArrival, arrival_of, entry_in}
+use Rattle.chv_query.specs.Arrivals.{Arrival, Contribution, IsArrival, arrival_in, entry_in}
 use Rattle.chv_query.specs.Plans.{Delivery}
-use Rattle.chv_query.proofs.ArrivalLemmas.{ArrivesIn}
 use Rattle.chv_query.specs.Queries.{divides}
 use Rattle.chv_sip.specs.BlockIds.{SourceKey, Content, Token}
 use Rattle.chv_sip.specs.declared.block_id.BlockId.{BlockId}
 use Rattle.chv_text.specs.Replies.{ok_line, refused_line}
+use Rattle.chv_types.specs.declared.kind.Kind.{Kind}
 use Rattle.chv_types.specs.declared.value.Value.{Value}
 use Rattle.chv_history.specs.Acknowledged.{AreApart, IdsNameOne, IsDelivered, IsHeld, IsWhole, IsWholeInBooks, SameTokenSameBlock, brought_by, known}
 use Rattle.chv_history.specs.Events.{Event, Created, Committed, Replied, Plan, Moment, begins, behind, happen, with_commit, written_in}
-use Rattle.chv_history.specs.Histories.{History, IsLawful, book_of, ids_in, window_at, with_accepted}
+use Rattle.chv_history.specs.Histories.{History, IsLawful, book_of, ids_in, window_at, with_accepted, with_none}
 use Rattle.chv_history.specs.Runs.{answer_events, delivery_event, entries_in, request_events, run_events, task_events}
 use Rattle.chv_history.specs.Script.{Request, AreFormed, IsFormed}
 use Rattle.chv_history.specs.Tasks.{Task, Bring, Make, TellParts, TellRows, task_of}
 use Rattle.chv_history.specs.Told.{parts_text, query_text, table_rows}
 use Rattle.chv_history.proofs.AcknowledgedLemmas.{Holding}
+use Rattle.chv_history.proofs.ArrivingLemmas.{with_none-among}
 use Rattle.chv_history.proofs.CommitLemmas.{arrivals-with_commit, arrivals-other, schema-with_commit}
-use Rattle.chv_history.proofs.LawfulLemmas.{form_there}
 use Rattle.chv_history.proofs.RunLemmas.{Lawful, TaskSound, lawful_request, sound_task}
 use Rattle.chv_history.proofs.WhileLemmas.{While, while_behind, while_both, while_last, while_run, while-append}
 
@@ -66,10 +70,12 @@ brought_other false old arrivals brought a is = is
 -- what arrived behind an event, and is brought by those behind it, is what had arrived and is brought by all
 known_created : (accepted : Accepted) (history : History) (table : ℕ) (brought : List Arrival) (a : Arrival) → Contains ((with_accepted accepted history).arrivals table ++ brought) a → Contains (history.arrivals table ++ brought) a
 known_created accepted history table brought a is =
-    (elim (table == length (tables_of history.schema) + 1) as (λ (b : Bool). Contains ((if b then [] else history.arrivals table) ++ brought) a → Contains (history.arrivals table ++ brought) a) [
-      | true ↦ λ there. Contains-append_right (history.arrivals table) brought a there
-      | false ↦ λ there. there
-    ]) is
+    let number = length (tables_of history.schema) + 1 in
+    let old = history.arrivals table in
+    elim (Contains-append_cases (with_none accepted.definition number history.arrivals table) brought a is) as (λ _. Contains (old ++ brought) a) [
+      | inl before ↦ Contains-append_left old brought a (with_none-among accepted.definition number table history.arrivals a before)
+      | inr later ↦ Contains-append_right old brought a later
+    ]
 
 known_committed : (other : ℕ) (arrivals : List Arrival) (history : History) (table : ℕ) (brought : List Arrival) (a : Arrival) → Contains ((with_commit other arrivals history).arrivals table ++ brought) a
     → Contains (history.arrivals table ++ (if table == other then arrivals ++ brought else brought)) a
@@ -174,41 +180,42 @@ brought_answer : (client : ℕ) (task : Result Task Refusal) (done : List Event)
 brought_answer client (Ok task) done m brought = brought_task client task done m brought
 brought_answer client (Err refuses) done m brought = brought_reply (refused_line client refuses) true done m brought
 
+pub brought_request : (request : Request) (done : List Event) (m : Moment) → Brought done m → While Brought done (request_events request m.history) m
+brought_request request done m brought = brought_answer request.client (task_of (catalog_of m.history.schema) (entries_in m.history) request.statement) done m brought
+
+-- nothing is acknowledged yet
+pub brought_none : (m : Moment) → m.acknowledged ≡ [] → Brought [] m
+brought_none m none = subst (All (IsBrought [])) (sym none) (All-nil (IsBrought []))
+
 -- what a run acknowledges it has brought
 pub brought_behind : (requests : List Request) (m : Moment) (done left : List Event) → m.acknowledged ≡ [] → run_events requests m ≡ done ++ left → Brought done (behind done m)
 brought_behind requests m done left none split =
     while_behind Brought requests m done left
-    (while_run Brought (λ (request : Request). Unit {0})
-    (λ request before n asks brought. brought_answer request.client (task_of (catalog_of n.history.schema) (entries_in n.history) request.statement) before n brought)
-    requests [] m (λ k d within. tt) (subst (All (IsBrought [])) (sym none) (All-nil (IsBrought []))))
+    (while_run Brought (λ (request : Request). Unit {0}) (λ request before n asks brought. brought_request request before n brought) requests [] m (λ k d within. tt) (brought_none m none))
     split
 
 -- each acknowledged delivery is of an arrival in its table
 abbrev pub Arriving : List Event → Moment → Type 0
-Arriving done m = All (All (ArrivesIn (tables_of m.history.schema))) m.acknowledged
+Arriving done m = All (All (ArrivesIn (catalog_of m.history.schema))) m.acknowledged
 
--- also where a table is made
-still_there : (tables : List TableDef) (definition : Definition) (place : ℕ) (def : TableDef) → slice_get tables place ≡ Some def → slice_get (tables ++ tables_in definition) place ≡ Some def
-still_there [] definition place def is = absurd (cc is)
-still_there (first ∷ tables) definition zero def is = is
-still_there (first ∷ tables) definition (suc place) def is = still_there tables definition place def is
+-- also where a table or a view is made
+arrives_more : (schema : List Accepted) (accepted : Accepted) → IsSchema (schema ++ accepted ∷ []) → (d : Delivery) → ArrivesIn (catalog_of schema) d → ArrivesIn (catalog_of (schema ++ accepted ∷ [])) d
+arrives_more schema accepted lawful d is = record {
+  def = is.def;
+  numbered = is.numbered;
+  stands = subst (λ (c : Catalog). def_at c d.table ≡ Some is.def) (sym (catalog_of-push schema accepted)) (def_at-more accepted.definition (catalog_of schema) d.table is.def is.stands);
+  arrives = IsArrival-more schema accepted lawful d.table d.entry is.arrives;
+}
 
-arriving_created : (accepted : Accepted) (m : Moment) → All (All (ArrivesIn (tables_of m.history.schema))) m.acknowledged → All (All (ArrivesIn (tables_of (with_accepted accepted m.history).schema))) m.acknowledged
-arriving_created accepted m arriving =
-    let old = tables_of m.history.schema in
-    let new = tables_of (with_accepted accepted m.history).schema in
-    All-weaker (All (ArrivesIn old)) (All (ArrivesIn new))
-    (λ plan. All-weaker (ArrivesIn old) (ArrivesIn new)
-    (λ d is. record {
-      first = is.first;
-      def = is.def;
-      stands = subst (λ (defs : List TableDef). slice_get defs (d.table - 1) ≡ Some is.def) (sym (tables_of-push m.history.schema accepted)) (still_there old accepted.definition (d.table - 1) is.def is.stands);
-      arrives = is.arrives;
-    }) plan)
-    m.acknowledged arriving
+arriving_created : (accepted : Accepted) (m : Moment) → IsSchema (m.history.schema ++ accepted ∷ []) → All (All (ArrivesIn (catalog_of m.history.schema))) m.acknowledged
+    → All (All (ArrivesIn (catalog_of (m.history.schema ++ accepted ∷ [])))) m.acknowledged
+arriving_created accepted m lawful arriving =
+    let Old = ArrivesIn (catalog_of m.history.schema) in
+    let New = ArrivesIn (catalog_of (m.history.schema ++ accepted ∷ [])) in
+    All-weaker (All Old) (All New) (λ plan. All-weaker Old New (λ d is. arrives_more m.history.schema accepted lawful d is) plan) m.acknowledged arriving
 
 arriving_reply : (text : List ℕ) (refuses : Bool) (done : List Event) (m : Moment) → Arriving done m → While Arriving done (Replied text [] refuses ∷ []) m
-arriving_reply text refuses done m arriving = (arriving, subst (All (All (ArrivesIn (tables_of m.history.schema)))) (sym (append-nil m.acknowledged)) arriving)
+arriving_reply text refuses done m arriving = (arriving, subst (All (All (ArrivesIn (catalog_of m.history.schema)))) (sym (append-nil m.acknowledged)) arriving)
 
 schema_kept : (d : Delivery) (m : Moment) → (happen (delivery_event d) m).history.schema ≡ m.history.schema
 schema_kept d m = schema-with_commit d.table (d.entry ∷ []) m.history
@@ -222,64 +229,73 @@ arriving_deliveries [] done m arriving = arriving
 arriving_deliveries (d ∷ plan) done m arriving = (
   arriving,
   arriving_deliveries plan (done ++ delivery_event d ∷ []) (happen (delivery_event d) m)
-      (subst (λ (s : List Accepted). All (All (ArrivesIn (tables_of s))) m.acknowledged) (sym (schema_kept d m)) arriving),
+      (subst (λ (s : List Accepted). All (All (ArrivesIn (catalog_of s))) m.acknowledged) (sym (schema_kept d m)) arriving),
 )
 
-arriving_task : (client : ℕ) (task : Task) (done : List Event) (m : Moment) → TaskSound m.history task → Arriving done m → While Arriving done (task_events client task m.history) m
-arriving_task client (Make accepted) done m sound arriving = (arriving, arriving_reply (ok_line client) false (done ++ Created accepted ∷ []) (happen (Created accepted) m) (arriving_created accepted m arriving))
-arriving_task client (Bring plan) done m sound arriving =
+arriving_task : (client : ℕ) (task : Task) (done : List Event) (m : Moment) → IsLawful m.history → TaskSound m.history task → Arriving done m → While Arriving done (task_events client task m.history) m
+arriving_task client (Make accepted) done m lawful sound arriving =
+    let schema = IsSchema-push m.history.schema accepted lawful.schema sound.0 sound.1 in
+    (arriving, arriving_reply (ok_line client) false (done ++ Created accepted ∷ []) (happen (Created accepted) m) (arriving_created accepted m schema arriving))
+arriving_task client (Bring plan) done m lawful sound arriving =
     let events = map delivery_event plan in
     let last = behind events m in
-    let Arrives = All (ArrivesIn (tables_of last.history.schema)) in
+    let Arrives = All (ArrivesIn (catalog_of last.history.schema)) in
     let made : While Arriving done events m = arriving_deliveries plan done m arriving in
     let before : All Arrives last.acknowledged = while_last Arriving events done m made in
-    let here : Arrives plan = subst (λ (s : List Accepted). All (ArrivesIn (tables_of s)) plan) (sym (schema-deliveries plan m)) sound.arrive in
+    let here : Arrives plan = subst (λ (s : List Accepted). All (ArrivesIn (catalog_of s)) plan) (sym (schema-deliveries plan m)) sound.arrive in
     while-append Arriving events _ done m made (before, All-push Arrives last.acknowledged plan before here)
-arriving_task client (TellRows query) done m sound arriving =
+arriving_task client (TellRows query) done m lawful sound arriving =
     let rows = table_rows (form_of query.def) (book_of m.history query.table) in
     arriving_reply (query_text client query rows) (divides query rows) done m arriving
-arriving_task client (TellParts table def) done m sound arriving = arriving_reply (parts_text client (form_of def) (book_of m.history table)) false done m arriving
+arriving_task client (TellParts table def) done m lawful sound arriving = arriving_reply (parts_text client (form_of def) (book_of m.history table)) false done m arriving
 
-arriving_answer : (client : ℕ) (task : Result Task Refusal) (done : List Event) (m : Moment) → IfOk task (TaskSound m.history) → Arriving done m → While Arriving done (answer_events client task m.history) m
-arriving_answer client (Ok task) done m sound arriving = arriving_task client task done m sound arriving
-arriving_answer client (Err refuses) done m sound arriving = arriving_reply (refused_line client refuses) true done m arriving
+arriving_answer : (client : ℕ) (task : Result Task Refusal) (done : List Event) (m : Moment) → IsLawful m.history → IfOk task (TaskSound m.history) → Arriving done m → While Arriving done (answer_events client task m.history) m
+arriving_answer client (Ok task) done m lawful sound arriving = arriving_task client task done m lawful sound arriving
+arriving_answer client (Err refuses) done m lawful sound arriving = arriving_reply (refused_line client refuses) true done m arriving
 
-abbrev Both : List Event → Moment → Type 0
-Both done m = Lawful done m × Arriving done m
+abbrev pub LawfulArriving : List Event → Moment → Type 0
+LawfulArriving done m = Lawful done m × Arriving done m
+
+pub arriving_request : (request : Request) (done : List Event) (m : Moment) → IsFormed request → LawfulArriving done m → While LawfulArriving done (request_events request m.history) m
+arriving_request request done m formed both =
+    while_both Lawful Arriving (request_events request m.history) done m (lawful_request request done m formed both.0)
+    (arriving_answer request.client (task_of (catalog_of m.history.schema) (entries_in m.history) request.statement) done m both.0 (sound_task request m.history both.0 formed) both.1)
+
+-- nothing is acknowledged yet
+pub arriving_none : (m : Moment) → m.acknowledged ≡ [] → Arriving [] m
+arriving_none m none =
+    let Arrives = All (ArrivesIn (catalog_of m.history.schema)) in
+    subst (All Arrives) (sym none) (All-nil Arrives)
 
 -- so it is in a run of a lawful history, which stays lawful
 pub arriving_behind : (requests : List Request) (m : Moment) (done left : List Event) → IsLawful m.history → AreFormed requests → m.acknowledged ≡ [] → run_events requests m ≡ done ++ left
     → IsLawful (behind done m).history × Arriving done (behind done m)
 arriving_behind requests m done left lawful formed none split =
-    while_behind Both requests m done left
-    (while_run Both IsFormed
-    (λ request before n asks both.
-    while_both Lawful Arriving (request_events request n.history) before n (lawful_request request before n asks both.0)
-    (arriving_answer request.client (task_of (catalog_of n.history.schema) (entries_in n.history) request.statement) before n (sound_task request n.history both.0 asks) both.1))
-    requests [] m formed
-    (lawful, subst (All (All (ArrivesIn (tables_of m.history.schema)))) (sym none) (All-nil (All (ArrivesIn (tables_of m.history.schema))))))
-    split
+    while_behind LawfulArriving requests m done left (while_run LawfulArriving IsFormed arriving_request requests [] m formed (lawful, arriving_none m none)) split
 
--- an arrival is what its block arrives as
-arrival_is : (form : TableForm) (a : Arrival) → IsArrival form a → a ≡ arrival_of form a.source a.block
-arrival_is form a is = ap₂ (λ (id : BlockId) (rows : List (List Value)). record { source = a.source; block = a.block; id = id; rows = rows }) is.id_is is.rows_are
-
--- blocks of a table that go by the same are the same, where one token and number is that of one block
-same_named : (form : TableForm) (a b : List (List Value)) (source : SourceKey) (as_a as_b : Arrival) → as_a.block ≡ a → as_b.block ≡ b → IsArrival form as_a → IsArrival form as_b → as_a.source ≡ source → as_b.source ≡ source
+-- blocks of these kinds that go by the same are the same, where one token and number is that of one block
+same_named : (kinds : List Kind) (a b : List (List Value)) (source : SourceKey) → AllAreOf kinds a → AllAreOf kinds b → length a ≤ MAX_ROWS → length b ≤ MAX_ROWS → Names kinds a source → Names kinds b source
     → ((token : List ℕ) (number : ℕ) → source ≡ Token token number → a ≡ b) → a ≡ b
-same_named form a b (Content bytes) as_a as_b block_a block_b is_a is_b source_a source_b tokens =
-    let spelled_a : bytes ≡ block_spelling form.kinds as_a.block = subst (Names form.kinds as_a.block) source_a is_a.named in
-    let spelled_b : bytes ≡ block_spelling form.kinds as_b.block = subst (Names form.kinds as_b.block) source_b is_b.named in
-    let same = one_block form.kinds as_a.block as_b.block [] [] (omega (arith, is_a.most)) (omega (arith, is_b.most)) is_a.kinds_fit is_b.kinds_fit
-    (ap (λ (l : List ℕ). l ++ []) (sym spelled_a ∙ spelled_b)) in
-    sym block_a ∙ same.0 ∙ block_b
-same_named form a b (Token token number) as_a as_b block_a block_b is_a is_b source_a source_b tokens = tokens token number refl
+same_named kinds a b (Content bytes) fit_a fit_b most_a most_b spelled_a spelled_b tokens =
+    (one_block kinds a b [] [] (omega (arith, most_a)) (omega (arith, most_b)) fit_a fit_b (ap (λ (l : List ℕ). l ++ []) (sym spelled_a ∙ spelled_b))).0
+same_named kinds a b (Token token number) fit_a fit_b most_a most_b spelled_a spelled_b tokens = tokens token number refl
 
-same_arrival : (form : TableForm) (a b : Arrival) → IsArrival form a → IsArrival form b → a.source ≡ b.source
-    → ((token : List ℕ) (number : ℕ) → a.source ≡ Token token number → b.source ≡ Token token number → a.block ≡ b.block) → a ≡ b
-same_arrival form a b is_a is_b same tokens =
-    let block : a.block ≡ b.block = same_named form a.block b.block b.source a b refl refl is_a is_b same refl (λ token number is. tokens token number (same ∙ is) is) in
-    arrival_is form a is_a ∙ ap₂ (arrival_of form) same block ∙ sym (arrival_is form b is_b)
+one_def : (found : Option TableDef) (a b : TableDef) → found ≡ Some a → found ≡ Some b → a ≡ b
+one_def found a b is_a is_b = cc
+
+-- so are arrivals in one table that go by the same
+pub same_arrival : (catalog : Catalog) (table : ℕ) (a b : Arrival) → IsArrival catalog table a → IsArrival catalog table b → a.contribution ≡ b.contribution
+    → ((token : List ℕ) (number : ℕ) → a.contribution.source ≡ Token token number → b.contribution.source ≡ Token token number → a.block ≡ b.block) → a ≡ b
+same_arrival catalog table a b is_a is_b same tokens =
+    let source : a.contribution.source ≡ b.contribution.source = ap (λ (c : Contribution). c.source) same in
+    let origin : is_b.origin ≡ is_a.origin = one_def (def_at catalog a.contribution.origin) is_b.origin is_a.origin (ap (λ (c : Contribution). def_at catalog c.origin) same ∙ is_b.stands) is_a.stands in
+    let kinds = kinds_of is_a.origin in
+    let fit : AllAreOf kinds b.block = subst (λ (def : TableDef). AllAreOf (kinds_of def) b.block) origin is_b.kinds_fit in
+    let named_a : Names kinds a.block b.contribution.source = subst (Names kinds a.block) source is_a.named in
+    let named_b : Names kinds b.block b.contribution.source = subst (λ (def : TableDef). Names (kinds_of def) b.block b.contribution.source) origin is_b.named in
+    let block : a.block ≡ b.block =
+    same_named kinds a.block b.block b.contribution.source is_a.kinds_fit fit is_a.most is_b.most named_a named_b (λ token number is. tokens token number (source ∙ is) is) in
+    is_a.is ∙ ap₂ (arrival_in catalog) same block ∙ sym is_b.is
 
 -- a fact of each delivery of each plan, from what is among them
 each_delivery : (plans : List Plan) (P : Delivery → Type 0) → ((plan : Plan) (d : Delivery) → Contains plans plan → Contains plan d → P d) → All (All P) plans
@@ -303,25 +319,26 @@ whole_in_books m one held =
     let same : entry_in found.0 ≡ entry_in d.entry = ap₂ (λ (id : BlockId) (rows : List (List Value)). record { id = id; rows = rows }) found.2 rows in
     subst (λ (e : Entry). Contains (map entry_in (m.history.arrivals d.table)) e) same (Contains-map entry_in (m.history.arrivals d.table) found.0 found.1))
 
--- where different names have different ids, and one token and number is that of one block, what is held stands whole
+-- where what goes by different things has different ids, and one token and number is that of one block, what is held stands whole
 pub whole_behind : (done : List Event) (history : History) (m : Moment) → m ≡ behind done (begins history) → AreApart history done → SameTokenSameBlock history done → Holding m → Brought done m
     → IsLawful m.history → Arriving done m → All (IsWhole m.history) m.acknowledged
 whole_behind done history m is apart tokens held brought lawful arriving =
+    let catalog = catalog_of m.history.schema in
     each_delivery m.acknowledged (λ (d : Delivery). Contains (m.history.arrivals d.table) d.entry)
     (λ plan d among within.
     let found = found_under m plan d held among within in
-    let arrives : ArrivesIn (tables_of m.history.schema) d = All-contains (ArrivesIn (tables_of m.history.schema)) plan d (All-contains (All (ArrivesIn (tables_of m.history.schema))) m.acknowledged plan arriving among) within in
-    let form : TableForm = form_of arrives.def in
-    let place : d.table - 1 + 1 ≡ d.table = omega (arith, arrives.first) in
-    let all : All (IsArrival form) (m.history.arrivals d.table) =
-    subst (λ (n : ℕ). All (IsArrival form) (m.history.arrivals n)) place (lawful.arrivals (d.table - 1) form (form_there (tables_of m.history.schema) (d.table - 1) arrives.def arrives.stands)) in
-    let of : IsArrival form found.0 = All-contains (IsArrival form) (m.history.arrivals d.table) found.0 all found.1 in
+    let arrives : ArrivesIn catalog d = All-contains (ArrivesIn catalog) plan d (All-contains (All (ArrivesIn catalog)) m.acknowledged plan arriving among) within in
+    let place : d.table - 1 + 1 ≡ d.table = omega (arith, arrives.numbered) in
+    let all : All (IsArrival catalog d.table) (m.history.arrivals d.table) =
+    subst (λ (n : ℕ). All (IsArrival catalog n) (m.history.arrivals n)) place (lawful.arrivals (d.table - 1) arrives.def arrives.stands) in
+    let of : IsArrival catalog d.table found.0 = All-contains (IsArrival catalog d.table) (m.history.arrivals d.table) found.0 all found.1 in
     let known_a : Contains (known d.table history done) found.0 =
     arrived_known d.table done (begins history) found.0 (subst (λ (n : Moment). Contains (n.history.arrivals d.table) found.0) is found.1) in
     let brings : Contains (brought_by d.table done) d.entry =
     All-contains (λ (e : Delivery). Contains (brought_by e.table done) e.entry) plan d (All-contains (IsBrought done) m.acknowledged plan brought among) within in
     let known_d : Contains (known d.table history done) d.entry = Contains-append_right (history.arrivals d.table) (brought_by d.table done) d.entry brings in
-    let source : found.0.source ≡ d.entry.source = apart d.table found.0 d.entry known_a known_d found.2 in
+    let goes : found.0.contribution ≡ d.entry.contribution = apart d.table found.0 d.entry known_a known_d found.2 in
     let same : found.0 ≡ d.entry =
-    same_arrival form found.0 d.entry of arrives.arrives source (λ token number as_a as_b. tokens d.table found.0 d.entry token number known_a known_d as_a as_b) in
+    same_arrival catalog d.table found.0 d.entry of arrives.arrives goes
+    (λ token number as_a as_b. tokens d.table d.table found.0 d.entry token number known_a known_d (ap (λ (c : Contribution). c.origin) goes) as_a as_b) in
     subst (λ (a : Arrival). Contains (m.history.arrivals d.table) a) same found.1)

@@ -4,7 +4,8 @@ use Rattle.chv_ast.specs.declared.statement.Statement.{Statement}
 use Rattle.chv_ast.specs.declared.statement.Statement.TheVariants as statement
 use Rattle.chv_query.specs.Accepted.{is_built_table}
 
--- a table whose rows are not merged, and each view; rows that are not held for later; a query without FINAL; and the parts of a table
+-- a table whose rows are not merged, and each view; rows that are not held for later; a query without FINAL; and the parts of
+-- a table
 unfoldable pub is_built : Statement → Bool
 is_built (statement.CreateTable made) = is_built_table made
 is_built (statement.CreateView made) = true

@@ -10,8 +10,8 @@ use Rattle.chv_history.specs.Histories.{History, ids_in, window_at, put_at, with
 abbrev pub Plan : Type 0
 Plan = List Delivery
 
--- one opened gate, or one reply: a table is made; blocks arrive in a table, in one commit; a text is said, which acknowledges
--- these inserts, and may refuse its statement
+-- one opened gate, or one reply: a table or a view is made; blocks arrive in a table, in one commit; a text is said, which
+-- acknowledges these inserts, and may refuse its statement
 pub data Event : Type 0 where
   Created : Accepted → Event
   Committed : ℕ → List Arrival → Event

@@ -4,6 +4,7 @@ pub mod Crashes
 pub mod Events
 pub mod Histories
 pub mod Kept
+pub mod Lives
 pub mod Runs
 pub mod Script
 pub mod Spaced

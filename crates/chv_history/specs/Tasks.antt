@@ -19,8 +19,8 @@ use Rattle.chv_types.specs.Steps.{and_then, refuse_if}
 use Rattle.chv_history.specs.Built.{is_built}
 use Rattle.chv_history.specs.Events.{Plan}
 
--- what a store does: it makes a table or a view; it brings blocks; it tells the rows of a query, or the parts of the table of this number
--- and this definition
+-- what a store does: it makes a table or a view; it brings blocks; it tells the rows of a query, or the parts of the table of
+-- this number and this definition
 pub data Task : Type 0 where
   Make : Accepted → Task
   Bring : Plan → Task

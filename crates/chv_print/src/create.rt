@@ -55,6 +55,16 @@ fn put_table_rest(
     Ok(())
 }
 
+/// The canonical text of a statement that makes a view.
+#[tactic(auto, unfolding(crate::specs::StatementTexts::statement_text))]
+pub fn view_text(alloc: Global, made: &CreateView) -> Result<Vec<u8>, AllocError>
+    ensures { IfOk result (λ text. text.items ≡ spec.statement_text (Statement.CreateView made.now)) }
+{
+    let mut text = Vec::new(alloc);
+    put_view(&mut text, made)?;
+    Ok(text)
+}
+
 /// Puts a statement that makes a view behind `out`.
 #[tactic(auto, unfolding(crate::specs::StatementTexts::view_text))]
 pub fn put_view(out: &mut Vec<u8>, made: &CreateView) -> Result<(), AllocError>

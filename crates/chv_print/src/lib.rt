@@ -9,6 +9,6 @@ mod name;
 mod select;
 mod statement;
 
-pub use create::table_text;
+pub use create::{table_text, view_text};
 pub use expr::expr_text;
 pub use statement::statement_text;

@@ -11,7 +11,7 @@ use Rattle.chv_ast.specs.declared.refusal.Refusal.TheVariants.{UnknownColumn, Na
 use Rattle.chv_ast.specs.declared.statement.Insert.{Insert}
 use Rattle.chv_ast.specs.declared.statement.Settings.{Settings}
 use Rattle.chv_block.specs.Blocks.{blocks_of}
-use Rattle.chv_block.specs.Spellings.{AllAreOf}
+use Rattle.chv_block.specs.Spellings.{AllAreOf, IsSmall}
 use Rattle.chv_block.specs.declared.squasher.Sizes.{Sizes}
 use Rattle.chv_catalog.proofs.PathLemmas.{paths_from-are}
 use Rattle.chv_catalog.proofs.StepLemmas.{and_then-Ok, refuse_if-Ok}
@@ -31,8 +31,8 @@ use Rattle.chv_types.specs.Texts.{whole_number}
 use Rattle.chv_types.specs.declared.kind.Kind.{Kind}
 use Rattle.chv_types.specs.declared.table.Column.{Column}
 use Rattle.chv_types.specs.declared.value.Value.{Value}
-use Rattle.chv_query.proofs.JoinLemmas.{AreBlocks-blocks_of}
-use Rattle.chv_query.proofs.LiteralRowLemmas.{AreWithin, places_of-AreWithin, rows_kinds}
+use Rattle.chv_query.proofs.JoinLemmas.{All-blocks_of, AreBlocks-blocks_of}
+use Rattle.chv_query.proofs.LiteralRowLemmas.{AreWithin, places_of-AreWithin, rows_kinds, rows_small}
 use Rattle.chv_query.proofs.GrowthLemmas.{IsViewIn, end_stands, found_stands, schema-views}
 use Rattle.chv_query.specs.Accepted.{Accepted, IsSchema, catalog_of}
 use Rattle.chv_query.specs.Arrivals.{IsArrival}
@@ -122,9 +122,9 @@ module _ (catalog : Catalog) (views : All (IsViewIn catalog) catalog.views) (tab
         (taken_paths (paths_from links table) (paths_from-are links table) none)
 
     -- a block arrives along each of them
-    block_arrives : (source : SourceKey) → AllAreOf (kinds_of def) block → 1 ≤ length block → length block ≤ MAX_ROWS → Names (kinds_of def) block source → divides_below catalog table block ≡ false
+    block_arrives : (source : SourceKey) → AllAreOf (kinds_of def) block → 1 ≤ length block → length block ≤ MAX_ROWS → All (All IsSmall) block → Names (kinds_of def) block source → divides_below catalog table block ≡ false
         → All (ArrivesIn catalog) (block_deliveries catalog table source block)
-    block_arrives source kinds_fit some most named none =
+    block_arrives source kinds_fit some most small named none =
         All-map (ArrivesIn catalog) (delivery_along catalog table source block) (paths_for catalog table block)
         (All-weaker (IsTaken catalog table block) (λ path. ArrivesIn catalog (delivery_along catalog table source block path))
         (λ path is.
@@ -143,6 +143,7 @@ module _ (catalog : Catalog) (views : All (IsViewIn catalog) catalog.views) (tab
                 kinds_fit = kinds_fit;
                 some = some;
                 most = most;
+                small = small;
                 named = named;
                 sound = is.sound;
                 reaches = is.reaches;
@@ -152,15 +153,15 @@ module _ (catalog : Catalog) (views : All (IsViewIn catalog) catalog.views) (tab
         (paths_for catalog table block) (taken some none))
 
   -- so does each of some blocks
-  blocks_arrive : (token : Option (List ℕ)) (from most : ℕ) (blocks : List (List (List Value))) → is_long token ≡ false → from + most ≤ MAX_ROWS → AreBlocks (kinds_of def) most blocks
+  blocks_arrive : (token : Option (List ℕ)) (from most : ℕ) (blocks : List (List (List Value))) → is_long token ≡ false → from + most ≤ MAX_ROWS → AreBlocks (kinds_of def) most blocks → All (All (All IsSmall)) blocks
       → list_any (divides_below catalog table) blocks ≡ false → All (ArrivesIn catalog) (deliveries_of catalog table (kinds_of def) token from blocks)
-  blocks_arrive token from most [] short room are none = All-nil (ArrivesIn catalog)
-  blocks_arrive token from most (block ∷ blocks) short room are none =
+  blocks_arrive token from most [] short room are small none = All-nil (ArrivesIn catalog)
+  blocks_arrive token from most (block ∷ blocks) short room are small none =
       let parts = or_parts (divides_below catalog table block) (list_any (divides_below catalog table) blocks) none in
       let source = source_of (kinds_of def) token from block in
       All-append (ArrivesIn catalog) (block_deliveries catalog table source block) (deliveries_of catalog table (kinds_of def) token (from + 1) blocks)
-      (block_arrives block source are.0 are.1 (omega (arith, are.2, room)) (named (kinds_of def) token from block short (omega (arith, are.1, are.2, room))) parts.0)
-      (blocks_arrive token (from + 1) (most - length block) blocks short (omega (arith, are.1, are.2, room)) are.3 parts.1)
+      (block_arrives block source are.0 are.1 (omega (arith, are.2, room)) (All-head (All (All IsSmall)) block blocks small) (named (kinds_of def) token from block short (omega (arith, are.1, are.2, room))) parts.0)
+      (blocks_arrive token (from + 1) (most - length block) blocks short (omega (arith, are.1, are.2, room)) are.3 (All-tail (All (All IsSmall)) block blocks small) parts.1)
 
   -- so do those of rows
   planned_for-arrives : (insert : Insert) (plan : List Delivery) → planned_for catalog table def insert ≡ Ok plan → All (ArrivesIn catalog) plan
@@ -184,6 +185,7 @@ module _ (catalog : Catalog) (views : All (IsViewIn catalog) catalog.views) (tab
       subst (All (ArrivesIn catalog)) same
       (blocks_arrive insert.settings.token 0 MAX_ROWS blocks short.0 (omega arith)
       (AreBlocks-blocks_of (kinds_of def) sizes.0 written.0 MAX_ROWS (sizes_whole insert.settings sizes.0 sizes.1) of.0 (omega (arith, of.1, ltb-false MAX_ROWS (length insert.rows) few.0)))
+      (All-blocks_of (All IsSmall) (kinds_of def) sizes.0 written.0 (sizes_whole insert.settings sizes.0 sizes.1) (rows_small (kinds_of def) places insert.rows written.0 written.1))
       sound.0)
 
 -- each delivery that is planned beside what a schema defines is of an arrival in its table

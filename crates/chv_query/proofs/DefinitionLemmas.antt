@@ -1,5 +1,5 @@
 -- What a definition says.
-use Rattle.std.proofs.Common.{◌≡◌, ◌<◌, ◌≤◌, ◌&&◌, Bool, true, false, not, nat_lt, List, [], ◌∷◌, length, map, Option, Some, None, is_some, Ok, refl, subst, arith}
+use Rattle.std.proofs.Common.{◌≡◌, ◌<◌, ◌≤◌, ◌&&◌, ℕ, Bool, true, false, not, nat_lt, List, [], ◌∷◌, length, map, Option, Some, None, is_some, Ok, refl, sym, subst, arith}
 use Rattle.std.specs.List.{All, list_any}
 use Rattle.std.proofs.lemmas.Bool.{ltb-true, ltb-false}
 use Rattle.std.proofs.lemmas.List.Elements.{All-cons, All-head, All-nil, All-tail}
@@ -38,6 +38,7 @@ pub record Passed (catalog : Catalog) (made : CreateTable) (def : TableDef) : Ty
   pub few : length def.columns ≤ 64
   pub short : length (statement_text (statement.CreateTable made)) ≤ 1048576
   pub columns_are : columns_of made.columns ≡ Ok def.columns
+  pub once : has_repeat (column_names made.columns) ≡ false
 
 -- there are as many as are written
 pub length-columns_of : (columns : List ColumnDef) (made : List Column) → columns_of columns ≡ Ok made → length made ≡ length columns
@@ -80,4 +81,24 @@ module _ (catalog : Catalog) (made : CreateTable) where
         few = omega (arith, many, most);
         short = ltb-false 1048576 (length text) short.0;
         columns_are = columns.1;
+        once = once.0;
       })
+
+-- no two columns of a table have one name
+abbrev pub IsOnce : TableDef → Type 0
+IsOnce def = has_repeat (map (λ (column : Column). column.name) def.columns) ≡ false
+
+-- the names of columns that are made are those that are written
+names-columns_of : (columns : List ColumnDef) (made : List Column) → columns_of columns ≡ Ok made → map (λ (column : Column). column.name) made ≡ column_names columns
+names-columns_of [] made h = let none : made ≡ [] = cc in rw none refl
+names-columns_of (column ∷ columns) made h =
+    let kind = and_then-Ok (kind_of column.kind) _ made h in
+    let rest = and_then-Ok (columns_of columns) _ made kind.2 in
+    let whole : made ≡ record { name = column.name; kind = kind.0 } ∷ rest.0 = cc rest.2 in
+    rw (whole, names-columns_of columns rest.0 rest.1) refl
+
+-- so is it in each table that a statement defines
+pub once_named : (catalog : Catalog) (made : CreateTable) (def : TableDef) → defined catalog made ≡ Ok def → IsOnce def
+once_named catalog made def h =
+    let checks = passed catalog made def h in
+    subst (λ (names : List (List ℕ)). has_repeat names ≡ false) (sym (names-columns_of made.columns def.columns checks.columns_are)) checks.once

@@ -9,9 +9,11 @@ use Rattle.std.proofs.lemmas.Option.{slice_get-map, slice_get_within}
 use Rattle.chv_ast.specs.declared.refusal.Refusal.{Refusal}
 use Rattle.chv_ast.specs.declared.refusal.Refusal.TheVariants.{UnknownTable}
 use Rattle.chv_ast.specs.declared.statement.Select.{Select}
+use Rattle.chv_ast.specs.declared.statement.Statement.{Statement}
 use Rattle.chv_catalog.proofs.PathLemmas.{IsPath-append, target_of-append}
 use Rattle.chv_catalog.proofs.SchemaLemmas.{place_of-append-Some}
 use Rattle.chv_catalog.proofs.StepLemmas.{and_then-Ok}
+use Rattle.chv_catalog.specs.Checks.{has_repeat}
 use Rattle.chv_catalog.specs.Paths.{IsPath, end_of, link_of, links_of, target_of}
 use Rattle.chv_catalog.specs.Schemas.{Catalog, no_definitions, table_names, with_definition}
 use Rattle.chv_catalog.specs.declared.definition.Definition.{Definition}
@@ -26,14 +28,15 @@ use Rattle.chv_types.specs.Names.{place_of}
 use Rattle.chv_types.specs.Steps.{and_then, or_refuse}
 use Rattle.chv_types.specs.declared.table.Column.{Column}
 use Rattle.chv_types.specs.declared.value.Value.{Value}
-use Rattle.chv_query.proofs.AcceptedLemmas.{catalog_of-push, defines_view, with_schema, with_schema-cons, with_schema-nil}
+use Rattle.chv_query.proofs.AcceptedLemmas.{catalog_of-push, defines_table, defines_view, with_schema, with_schema-cons, with_schema-nil}
+use Rattle.chv_query.proofs.DefinitionLemmas.{IsOnce, once_named}
 use Rattle.chv_query.proofs.ViewLemmas.{passed_view}
 use Rattle.chv_query.specs.Accepted.{Accepted, AreAccepted, Defines, IsSchema, catalog_of}
 use Rattle.chv_query.specs.Arrivals.{Arrival, Contribution, IsArrival, arrival_in, contribution_id, end_at, names_along}
 use Rattle.chv_query.specs.Derived.{columns_at, def_at, derived, divides_along, divides_by, divides_in, form_at, form_in, through, viewed_by}
 use Rattle.chv_query.specs.Queries.{Asked, asked, asked_of}
 use Rattle.chv_query.specs.Tables.{table_of}
-use Rattle.chv_query.specs.Views.{fills, view_with}
+use Rattle.chv_query.specs.Views.{fills, names_in, view_with}
 
 ok_same : {A : Type 0} (x y : A) → ◌≡◌ {A = Result A Refusal} (Ok x) (Ok y) → x ≡ y
 ok_same {A} x y same = cc
@@ -105,6 +108,7 @@ pub record IsViewIn (catalog : Catalog) (view : ViewDef) : Type 0 where
   pub asks : asked catalog view.select ≡ Ok query
   pub asks_of : asked_of view.source source view.select ≡ Ok query
   pub fit : list_any (λ column. not (fills target.columns column)) query.columns ≡ false
+  pub once : has_repeat (names_in target.columns) ≡ false
 
 pub IsViewIn-more : (definition : Definition) (catalog : Catalog) (view : ViewDef) → IsViewIn catalog view → IsViewIn (with_definition definition catalog) view
 IsViewIn-more definition catalog view is = record {
@@ -118,6 +122,7 @@ IsViewIn-more definition catalog view is = record {
   asks = asked-more definition catalog view.select is.query is.asks;
   asks_of = is.asks_of;
   fit = is.fit;
+  once = is.once;
 }
 
 -- what is asked of the table that a name stands for
@@ -125,9 +130,9 @@ asked-at : (catalog : Catalog) (select : Select) (found : ℕ × TableDef) (quer
 unfolding asked
 asked-at catalog select found query is asks = rw is asks
 
--- a view that is defined is one of its catalog
-new_view : (catalog : Catalog) (accepted : Accepted) (def : ViewDef) → Defines catalog accepted.statement (View def) → IsViewIn catalog def
-new_view catalog accepted def defines =
+-- a view that is defined is one of its catalog, where no table has a column's name twice
+new_view : (catalog : Catalog) (accepted : Accepted) (def : ViewDef) → All IsOnce catalog.tables → Defines catalog accepted.statement (View def) → IsViewIn catalog def
+new_view catalog accepted def once defines =
     let view = defines_view catalog accepted.statement def defines in
     let made = view.made in
     let checks = passed_view catalog made def view.defines in
@@ -145,27 +150,37 @@ new_view catalog accepted def defines =
       asks = asked-at catalog made.select checks.source checks.query checks.source_is checks.query_is;
       asks_of = checks.query_is;
       fit = checks.fit;
+      once = All-at IsOnce catalog.tables (checks.target.0 - 1) checks.target.1 once target.1;
     })
 
 -- each view of a catalog is one with a definition more
-views-more : (definition : Definition) (catalog : Catalog) (accepted : Accepted) → definition ≡ accepted.definition → Defines catalog accepted.statement definition → All (IsViewIn catalog) catalog.views
+views-more : (definition : Definition) (catalog : Catalog) (accepted : Accepted) → definition ≡ accepted.definition → Defines catalog accepted.statement definition → All IsOnce catalog.tables → All (IsViewIn catalog) catalog.views
     → All (IsViewIn (with_definition definition catalog)) (with_definition definition catalog).views
-views-more (Table new) catalog accepted is defines all = All-weaker (IsViewIn catalog) (IsViewIn (with_definition (Table new) catalog)) (λ view of. IsViewIn-more (Table new) catalog view of) catalog.views all
-views-more (View new) catalog accepted is defines all =
+views-more (Table new) catalog accepted is defines once all = All-weaker (IsViewIn catalog) (IsViewIn (with_definition (Table new) catalog)) (λ view of. IsViewIn-more (Table new) catalog view of) catalog.views all
+views-more (View new) catalog accepted is defines once all =
     let Of = IsViewIn (with_definition (View new) catalog) in
     All-append Of catalog.views (new ∷ [])
     (All-weaker (IsViewIn catalog) Of (λ view of. IsViewIn-more (View new) catalog view of) catalog.views all)
-    (All-cons Of new [] (IsViewIn-more (View new) catalog new (new_view catalog accepted new defines)) (All-nil Of))
+    (All-cons Of new [] (IsViewIn-more (View new) catalog new (new_view catalog accepted new once defines)) (All-nil Of))
 
-views_behind : (catalog : Catalog) (schema : List Accepted) → AreAccepted catalog schema → All (IsViewIn catalog) catalog.views → All (IsViewIn (with_schema catalog schema)) (with_schema catalog schema).views
-views_behind catalog [] are all = subst (λ (c : Catalog). All (IsViewIn c) c.views) (sym (with_schema-nil catalog)) all
-views_behind catalog (accepted ∷ schema) are all =
+-- so is no name of a column of a table that is defined
+once-more : (definition : Definition) (catalog : Catalog) (s : Statement) → Defines catalog s definition → All IsOnce catalog.tables → All IsOnce (with_definition definition catalog).tables
+once-more (View new) catalog s defines once = once
+once-more (Table new) catalog s defines once =
+    let table = defines_table catalog s new defines in
+    All-append IsOnce catalog.tables (new ∷ []) once (All-cons IsOnce new [] (once_named catalog table.made new table.defines) (All-nil IsOnce))
+
+views_behind : (catalog : Catalog) (schema : List Accepted) → AreAccepted catalog schema → All IsOnce catalog.tables → All (IsViewIn catalog) catalog.views
+    → All (IsViewIn (with_schema catalog schema)) (with_schema catalog schema).views
+views_behind catalog [] are once all = subst (λ (c : Catalog). All (IsViewIn c) c.views) (sym (with_schema-nil catalog)) all
+views_behind catalog (accepted ∷ schema) are once all =
     subst (λ (c : Catalog). All (IsViewIn c) c.views) (with_schema-cons catalog accepted.definition schema)
-    (views_behind (with_definition accepted.definition catalog) schema are.2 (views-more accepted.definition catalog accepted refl are.1.defines all))
+    (views_behind (with_definition accepted.definition catalog) schema are.2 (once-more accepted.definition catalog accepted.statement are.1.defines once)
+    (views-more accepted.definition catalog accepted refl are.1.defines once all))
 
 -- each view of a schema is one of its catalog
 pub schema-views : (schema : List Accepted) → IsSchema schema → All (IsViewIn (catalog_of schema)) (catalog_of schema).views
-schema-views schema is = views_behind no_definitions schema is (All-nil (IsViewIn no_definitions))
+schema-views schema is = views_behind no_definitions schema is (All-nil IsOnce) (All-nil (IsViewIn no_definitions))
 
 -- a view at a place of the links
 pub record IsLinked (catalog : Catalog) (view : ℕ) (link : Link) : Type 0 where
@@ -290,6 +305,7 @@ module _ (definition : Definition) (catalog : Catalog) (views : All (IsViewIn ca
     kinds_fit = is.kinds_fit;
     some = is.some;
     most = is.most;
+    small = is.small;
     named = is.named;
     sound = divides_along-more a.contribution.origin a.contribution.path is.leads a.block ∙ is.sound;
     reaches = subst (λ (rows : List (List Value)). 1 ≤ length rows) (sym (derived-more a.contribution.origin a.contribution.path is.leads a.block)) is.reaches;

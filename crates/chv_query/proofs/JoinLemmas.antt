@@ -1,7 +1,7 @@
 -- The blocks of rows: the rows of each are of the columns' kinds, none is empty, and together they have as many rows.
-use Rattle.std.proofs.Common.{◌≡◌, ◌≤◌, ◌-◌, ℕ, List, [], ◌∷◌, ◌++◌, length, refl, ap, ◌∙◌, arith, length-append}
+use Rattle.std.proofs.Common.{◌≡◌, ◌≤◌, ◌-◌, ℕ, List, [], ◌∷◌, ◌++◌, length, refl, sym, ap, subst, ◌∙◌, arith, length-append}
 use Rattle.std.specs.List.{All}
-use Rattle.std.proofs.lemmas.List.Elements.{All-head, All-tail}
+use Rattle.std.proofs.lemmas.List.Elements.{All-cons, All-head, All-nil, All-tail}
 use Rattle.chv_block.proofs.JoinedLemmas.{joined-blocks_of, blocks_of-some}
 use Rattle.chv_block.specs.Blocks.{rows_of, blocks_of, joined}
 use Rattle.chv_block.specs.Spellings.{AllAreOf}
@@ -17,6 +17,11 @@ rows_of-sized_rows kinds (row ∷ rows) = ap (λ (l : List (List Value)). row �
 
 joined-blocks : (kinds : List Kind) (sizes : Sizes) (rows : List (List Value)) → 1 ≤ sizes.max_rows → joined (blocks_of sizes (sized_rows kinds rows)) ≡ rows
 joined-blocks kinds sizes rows some = joined-blocks_of sizes (sized_rows kinds rows) some ∙ rows_of-sized_rows kinds rows
+
+All-split : (P : List Value → Type 0) (rows more : List (List Value)) → All P (rows ++ more) → All P rows × All P more
+All-split P [] more all = (All-nil P, all)
+All-split P (row ∷ rows) more all =
+    let rest = All-split P rows more (All-tail P row (rows ++ more) all) in (All-cons P row rows (All-head P row (rows ++ more) all) rest.0, rest.1)
 
 AllAreOf-split : (kinds : List Kind) (rows more : List (List Value)) → AllAreOf kinds (rows ++ more) → AllAreOf kinds rows × AllAreOf kinds more
 AllAreOf-split kinds [] more all = (tt, all)
@@ -65,3 +70,13 @@ pub AreBlocks-more : (kinds : List Kind) (few most : ℕ) (blocks : List (List (
 AreBlocks-more kinds few most [] more are = tt
 AreBlocks-more kinds few most (block ∷ blocks) more are =
     (are.0, are.1, omega (arith, are.2, more), AreBlocks-more kinds (few - length block) (most - length block) blocks (omega (arith, more)) are.3)
+
+All-joined : (P : List Value → Type 0) (blocks : List (List (List Value))) → All P (joined blocks) → All (All P) blocks
+All-joined P [] all = All-nil (All P)
+All-joined P (block ∷ blocks) all =
+    let parts = All-split P block (joined blocks) all in
+    All-cons (All P) block blocks parts.0 (All-joined P blocks parts.1)
+
+-- what holds of all rows holds of those of each block
+pub All-blocks_of : (P : List Value → Type 0) (kinds : List Kind) (sizes : Sizes) (rows : List (List Value)) → 1 ≤ sizes.max_rows → All P rows → All (All P) (blocks_of sizes (sized_rows kinds rows))
+All-blocks_of P kinds sizes rows some all = All-joined P (blocks_of sizes (sized_rows kinds rows)) (subst (All P) (sym (joined-blocks kinds sizes rows some)) all)

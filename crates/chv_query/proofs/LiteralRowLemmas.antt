@@ -2,7 +2,7 @@
 use Rattle.std.proofs.Common.{◌≡◌, ◌+◌, ◌<◌, ◌≤◌, ℕ, suc, Bool, true, false, not, List, [], ◌∷◌, length, map, get_or, Option, None, Some, Result, Ok, Err, if◌then◌else◌, nat_eq, nat_lt, refl, ap, subst, ◌∙◌, arith, rules, eqb-true}
 use Rattle.std.specs.List.{All, cons_option}
 use Rattle.std.proofs.lemmas.Int.{ints}
-use Rattle.std.proofs.lemmas.List.Elements.{All-nil, All-cons}
+use Rattle.std.proofs.lemmas.List.Elements.{All-cons, All-head, All-nil, All-tail}
 use Rattle.std.proofs.lemmas.Option.{slice_get-get_or}
 use Rattle.chv_ast.specs.declared.expr.Literal.{Literal}
 use Rattle.chv_ast.specs.declared.expr.Literal.TheVariants as literal
@@ -189,3 +189,45 @@ rows_kinds kinds places (literals ∷ lists) rows within is =
     let rest = rows_kinds kinds places lists later.0 within later.1 in
     subst (λ (l : List (List Value)). AllAreOf kinds l × (length l ≡ length (literals ∷ lists))) (ok_same (first.0 ∷ later.0) rows later.2)
     ((row_kinds kinds places literals first.0 within first.1, rest.0), omega (arith, rest.1))
+
+-- values that literals write are small
+values_small : (kinds : List Kind) (literals : List Literal) (values : List Value) → values_for kinds literals ≡ Ok values → All IsSmall values
+values_small [] literals values is = subst (All IsSmall) (ok_same [] values is) (All-nil IsSmall)
+values_small (of ∷ kinds) [] values is = subst (All IsSmall) (ok_same [] values is) (All-nil IsSmall)
+values_small (of ∷ kinds) (l ∷ literals) values is =
+    let first = and_then-Ok (value_for of l) (λ v. and_then (values_for kinds literals) (λ rest. Ok (v ∷ rest))) values is in
+    let later = and_then-Ok (values_for kinds literals) (λ rest. Ok (first.0 ∷ rest)) values first.2 in
+    subst (All IsSmall) (ok_same (first.0 ∷ later.0) values later.2)
+    (All-cons IsSmall first.0 later.0 (value_small of l first.0 first.1) (values_small kinds literals later.0 later.1))
+
+either_small : (b : Bool) (v w : Value) → IsSmall v → IsSmall w → IsSmall (if b then v else w)
+either_small true v w first other = first
+either_small false v w first other = other
+
+value_at_small : (place : ℕ) (of : Kind) (places : List ℕ) (values : List Value) → All IsSmall values → IsSmall (value_at place of places values)
+value_at_small place of [] values small = default_small of
+value_at_small place of (filled ∷ places) [] small = default_small of
+value_at_small place of (filled ∷ places) (v ∷ values) small =
+    either_small (nat_eq filled place) v (value_at place of places values) (All-head IsSmall v values small)
+    (value_at_small place of places values (All-tail IsSmall v values small))
+
+arranged_small : (place : ℕ) (kinds : List Kind) (places : List ℕ) (values : List Value) → All IsSmall values → All IsSmall (arranged place kinds places values)
+arranged_small place [] places values small = All-nil IsSmall
+arranged_small place (of ∷ kinds) places values small =
+    All-cons IsSmall (value_at place of places values) (arranged (place + 1) kinds places values) (value_at_small place of places values small) (arranged_small (place + 1) kinds places values small)
+
+row_small : (kinds : List Kind) (places : List ℕ) (literals : List Literal) (row : List Value) → row_for kinds places literals ≡ Ok row → All IsSmall row
+row_small kinds places literals row is =
+    let width = refuse_if-Ok (not (nat_eq (length literals) (length places))) WrongWidth _ row is in
+    let values = and_then-Ok (values_for (kinds_at kinds places) literals) (λ values. Ok (arranged 0 kinds places values)) row width.1 in
+    subst (All IsSmall) (ok_same (arranged 0 kinds places values.0) row values.2)
+    (arranged_small 0 kinds places values.0 (values_small (kinds_at kinds places) literals values.0 values.1))
+
+-- so are those of rows that literals write
+pub rows_small : (kinds : List Kind) (places : List ℕ) (lists : List (List Literal)) (rows : List (List Value)) → rows_for kinds places lists ≡ Ok rows → All (All IsSmall) rows
+rows_small kinds places [] rows is = subst (All (All IsSmall)) (ok_same [] rows is) (All-nil (All IsSmall))
+rows_small kinds places (literals ∷ lists) rows is =
+    let first = and_then-Ok (row_for kinds places literals) (λ row. and_then (rows_for kinds places lists) (λ rest. Ok (row ∷ rest))) rows is in
+    let later = and_then-Ok (rows_for kinds places lists) (λ rest. Ok (first.0 ∷ rest)) rows first.2 in
+    subst (All (All IsSmall)) (ok_same (first.0 ∷ later.0) rows later.2)
+    (All-cons (All IsSmall) first.0 later.0 (row_small kinds places literals first.0 first.1) (rows_small kinds places lists later.0 later.1))

@@ -21,7 +21,7 @@ unfolding shape_of
 IsShape-outputs columns select bound outputs single put are =
     (shape_of_outputs outputs, rw (single, put) refl, record { mean = are.mean; grouping = refl; columns = are.named })
 
-kinds-columns_of : (outputs : List Output)
+pub kinds-columns_of : (outputs : List Output)
     → map (λ (column : Column). column.kind) (columns_of outputs) ≡ map (λ (term : Term). term.kind) (map (λ (output : Output). output.term) outputs)
 kinds-columns_of [] = refl
 kinds-columns_of (output ∷ outputs) = ap (λ (kinds : List Kind). output.term.kind ∷ kinds) (kinds-columns_of outputs)

@@ -1,8 +1,8 @@
 -- Blocks that arrive in tables, where they came from, and along which views.
 use Rattle.std.specs.Prelude.{ℕ, ◌≡◌, ◌≤◌, false, List, [], ◌∷◌, length, map, Some, slice_get}
-use Rattle.std.specs.List.{filter_map}
+use Rattle.std.specs.List.{All, filter_map}
 use Rattle.std.specs.Option.{option_map}
-use Rattle.chv_block.specs.Spellings.{AllAreOf}
+use Rattle.chv_block.specs.Spellings.{AllAreOf, IsSmall}
 use Rattle.chv_catalog.specs.Paths.{IsPath, end_of, links_of}
 use Rattle.chv_catalog.specs.Schemas.{Catalog, kinds_of}
 use Rattle.chv_catalog.specs.declared.table_def.TableDef.{TableDef}
@@ -54,8 +54,8 @@ arrival_in catalog contribution block = record {
   rows = normal_rows (form_at catalog (end_at catalog contribution.origin contribution.path)) (derived catalog block contribution.path);
 }
 
--- an arrival in the table of a number: a block of one row or more of the columns of the table into which it was inserted, from
--- where its path leads here; no view on it divides by zero, and a row is derived; its id is that of what it goes by, and its
+-- an arrival in the table of a number: a block of one row or more of the columns of the table into which it was inserted, each
+-- value of 1,048,576 bytes at most; its path leads here from there; no view on it divides by zero, and a row is derived; its id is that of what it goes by, and its
 -- rows are those that are derived, in normal form
 pub record IsArrival (catalog : Catalog) (table : ℕ) (arrival : Arrival) : Type 0 where
   pub origin : TableDef
@@ -66,6 +66,7 @@ pub record IsArrival (catalog : Catalog) (table : ℕ) (arrival : Arrival) : Typ
   pub kinds_fit : AllAreOf (kinds_of origin) arrival.block
   pub some : 1 ≤ length arrival.block
   pub most : length arrival.block ≤ MAX_ROWS
+  pub small : All (All IsSmall) arrival.block
   pub named : Names (kinds_of origin) arrival.block arrival.contribution.source
   pub sound : divides_along catalog arrival.block arrival.contribution.path ≡ false
   pub reaches : 1 ≤ length (derived catalog arrival.block arrival.contribution.path)

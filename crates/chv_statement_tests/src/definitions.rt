@@ -1,11 +1,11 @@
 // Statements that define a table, and those that are refused.
-use crate::making::{defined, make_table};
-use chv_catalog::{Schema, StatementFault, TableDef};
+use crate::making::{defined, make};
+use chv_catalog::{Definition, Schema, StatementFault, TableDef};
 use chv_types::Engine;
 use std::alloc::Global;
 
-// The number of the refusal of a text, or 0 where it defines a table; 98 where it is no CREATE TABLE statement, 99 for want of memory.
-fn code(alloc: Global, schema: &Schema, text: &[u8]) -> u8 {
+/// The number of the refusal of a text, or 0 where it defines something; 98 where it is no CREATE statement, 99 for want of memory.
+pub fn code(alloc: Global, schema: &Schema, text: &[u8]) -> u8 {
     match defined(alloc, schema, text) {
         None => 98,
         Some(Ok(_)) => 0,
@@ -17,7 +17,7 @@ fn code(alloc: Global, schema: &Schema, text: &[u8]) -> u8 {
 // The table `a` alone.
 fn one_table(alloc: Global) -> Schema {
     let mut schema = Schema::new(alloc);
-    make_table(
+    make(
         alloc,
         &mut schema,
         b"CREATE TABLE a (n UInt64) ENGINE = MergeTree ORDER BY n",
@@ -25,8 +25,8 @@ fn one_table(alloc: Global) -> Schema {
     schema
 }
 
-// The first of some texts that is not told the number beside it.
-fn first_wrong(alloc: Global, schema: &Schema, cases: &[(u8, &[u8])]) -> Option<usize> {
+/// The first of some texts that is not told the number beside it.
+pub fn first_wrong(alloc: Global, schema: &Schema, cases: &[(u8, &[u8])]) -> Option<usize> {
     cases
         .iter()
         .position(|case| code(alloc, schema, case.1) != case.0)
@@ -120,7 +120,7 @@ fn is_hits(def: &TableDef) -> bool {
 // Whether a text defines that table.
 fn defines_hits(alloc: Global, text: &[u8]) -> bool {
     match defined(alloc, &Schema::new(alloc), text) {
-        Some(Ok(def)) => is_hits(&def),
+        Some(Ok(Definition::Table(def))) => is_hits(&def),
         _ => false,
     }
 }

@@ -5,7 +5,7 @@ ghost use Rattle.chv_catalog.specs.Schemas.{kinds_of};
 
 use crate::making::{defined, statement_of};
 use chv_ast::Statement;
-use chv_catalog::{Schema, StatementFault, TableDef};
+use chv_catalog::{Definition, Schema, StatementFault, TableDef};
 use chv_plan::{Delivery, Plan, plan_insert};
 use chv_sip::BlockId;
 use std::alloc::Global;
@@ -22,7 +22,7 @@ fn schema_of(alloc: Global, def: TableDef) -> Option<Schema>
     if schema.reserve_one(alloc, def.name.as_slice()).is_err() {
         return None;
     }
-    schema.accept(def);
+    schema.accept(Definition::Table(def));
     Some(schema)
 }
 
@@ -32,7 +32,7 @@ fn one_table(alloc: Global) -> Option<Schema>
 {
     let text = b"CREATE TABLE t (a Int8, b Bool, c String, d UInt8) ENGINE = MergeTree ORDER BY c";
     match defined(alloc, &Schema::new(alloc), text) {
-        Some(Ok(def)) => schema_of(alloc, def),
+        Some(Ok(Definition::Table(def))) => schema_of(alloc, def),
         _ => None,
     }
 }

@@ -9,3 +9,5 @@ mod inserts;
 mod making;
 #[cfg(test)]
 mod tables;
+#[cfg(test)]
+mod views;

@@ -1,10 +1,11 @@
-// Statements and tables, made from texts.
-ghost use Rattle.std.specs.Prelude.{IfSome};
+// Statements, tables and views, made from texts.
+ghost use Rattle.std.specs.Prelude.{◌≡◌, IfSome};
 ghost use Rattle.chv_ast.specs.Formed.{WellFormed};
+ghost use Rattle.chv_catalog.specs.Schemas.{definition_name};
 
-use chv_ast::Statement;
-use chv_catalog::{Schema, StatementFault, TableDef};
-use chv_define::define;
+use chv_ast::{CreateTable, CreateView, Statement};
+use chv_catalog::{Definition, Schema, StatementFault};
+use chv_define::{define, define_view};
 use chv_lex::tokens;
 use chv_parse::statement;
 use std::alloc::Global;
@@ -23,35 +24,58 @@ pub fn statement_of(alloc: Global, text: &[u8]) -> Option<Statement>
     }
 }
 
-/// What a text defines beside the tables that stand; None where it is no CREATE TABLE statement.
+/// What a text defines beside the tables and views that stand; None where it is no CREATE statement.
 pub fn defined(
     alloc: Global,
     schema: &Schema,
     text: &[u8],
-) -> Option<Result<TableDef, StatementFault>> {
+) -> Option<Result<Definition, StatementFault>> {
     match statement_of(alloc, text) {
-        Some(Statement::CreateTable(made)) => Some(define(alloc, schema, &made)),
+        Some(Statement::CreateTable(made)) => Some(table_of(alloc, schema, &made)),
+        Some(Statement::CreateView(made)) => Some(view_of(alloc, schema, made)),
         _ => None,
     }
 }
 
-/// Takes a table, unless its name is taken; false where it is not taken.
-pub fn accept(alloc: Global, schema: &mut Schema, def: TableDef) -> bool {
-    let name = def.name.as_slice();
+fn table_of(
+    alloc: Global,
+    schema: &Schema,
+    made: &CreateTable,
+) -> Result<Definition, StatementFault> {
+    Ok(Definition::Table(define(alloc, schema, made)?))
+}
+
+fn view_of(alloc: Global, schema: &Schema, made: CreateView) -> Result<Definition, StatementFault> {
+    Ok(Definition::View(define_view(alloc, schema, made)?))
+}
+
+// The name of what is defined.
+fn name_of(definition: &Definition) -> &[u8]
+    ensures { result.now ≡ definition_name definition.now }
+{
+    match definition {
+        Definition::Table(def) => def.name.as_slice(),
+        Definition::View(def) => def.name.as_slice(),
+    }
+}
+
+/// Takes what is defined, unless its name is taken; false where it is not taken.
+pub fn accept(alloc: Global, schema: &mut Schema, definition: Definition) -> bool {
+    let name = name_of(&definition);
     if schema.taken(name) || schema.definitions() >= 256 {
         return false;
     }
     if schema.reserve_one(alloc, name).is_err() {
         return false;
     }
-    schema.accept(def);
+    schema.accept(definition);
     true
 }
 
-/// Makes the table of a text beside those that stand; false where there is none.
-pub fn make_table(alloc: Global, schema: &mut Schema, text: &[u8]) -> bool {
+/// Makes what a text defines beside what stands; false where it defines nothing.
+pub fn make(alloc: Global, schema: &mut Schema, text: &[u8]) -> bool {
     match defined(alloc, schema, text) {
-        Some(Ok(def)) => accept(alloc, schema, def),
+        Some(Ok(definition)) => accept(alloc, schema, definition),
         _ => false,
     }
 }

@@ -1,5 +1,5 @@
 // Tables that come one after the other, and their names.
-use crate::making::make_table;
+use crate::making::make;
 use chv_catalog::Schema;
 use std::alloc::Global;
 use std::test::Fail;
@@ -7,13 +7,13 @@ use std::test::Fail;
 // The tables `hits` and `hits_by_day`. Room for another name is given up in between.
 fn two_tables(alloc: Global) -> Schema {
     let mut schema = Schema::new(alloc);
-    make_table(
+    make(
         alloc,
         &mut schema,
         b"CREATE TABLE hits (n UInt64) ENGINE = MergeTree ORDER BY n",
     );
     let _ = schema.reserve_one(alloc, b"given_up");
-    make_table(
+    make(
         alloc,
         &mut schema,
         b"CREATE TABLE hits_by_day (n UInt8) ENGINE = MergeTree ORDER BY n",

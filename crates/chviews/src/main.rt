@@ -1,6 +1,8 @@
 //! The program: the words, standard input, the folder of the store and the exit status.
 #![tactic(auto)]
 
+#[cfg(test)]
+mod cascades;
 mod count;
 #[cfg(test)]
 mod ends;
