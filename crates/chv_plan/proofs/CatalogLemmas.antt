@@ -1,5 +1,5 @@
 -- The views of a catalog that a schema defines, and the same views bound.
-use Rattle.std.proofs.Common.{◌≡◌, ◌∙◌, ◌≤◌, ◌<◌, ◌-◌, ◌+◌, ◌&&◌, ℕ, Bool, true, nat_lt, zero, suc, List, [], ◌∷◌, ◌++◌, length, get_or, take, Option, None, Some, Result, Ok, Err, slice_get, refl, sym, ap, subst, arith}
+use Rattle.std.proofs.Common.{◌≡◌, ◌∙◌, ◌≤◌, ◌<◌, ◌-◌, ◌+◌, ◌&&◌, ℕ, Bool, true, nat_lt, zero, suc, List, [], ◌∷◌, ◌++◌, length, get_or, take, Option, None, Some, Result, Ok, Err, slice_get, option_map, ◌^◌, refl, sym, ap, subst, arith}
 use Rattle.std.specs.List.{All, list_all}
 use Rattle.std.proofs.lemmas.Bool.{and_parts, ltb-true}
 use Rattle.std.proofs.lemmas.List.Elements.{All-append, All-cons, All-head, All-nil, All-tail, All-weaker}
@@ -23,6 +23,9 @@ use Rattle.chv_catalog.specs.declared.fault.StatementFault.TheVariants.{NoMemory
 use Rattle.chv_catalog.specs.declared.table_def.TableDef.{TableDef}
 use Rattle.chv_catalog.specs.declared.view_def.ViewDef.{ViewDef}
 use Rattle.chv_query.proofs.AcceptedLemmas.{defines_view}
+use Rattle.chv_query.proofs.AptLemmas.{IsAptTable, schema-apt}
+use Rattle.chv_query.proofs.EntryLemmas.{AreRowsOf, through-fits}
+use Rattle.chv_query.proofs.GroupFits.{SetsWithin}
 use Rattle.chv_query.proofs.GrowthLemmas.{All-at, IsViewIn, schema-views}
 use Rattle.chv_query.proofs.ViewLemmas.{passed_view}
 use Rattle.chv_query.specs.Accepted.{Accepted, AreAccepted, Defines, catalog_of, views_in, views_of}
@@ -146,7 +149,27 @@ module _ (catalog : Catalog) where
 -- what a view makes of a block of its source is one of its target
 pub derived_block : (catalog : Catalog) → IsCatalog catalog → (view : ℕ) (def : ViewDef) (rows : List (List Value)) → slice_get catalog.views view ≡ Some def → IsBlockOf (form_at catalog def.source) rows
     → IsBlockOf (form_at catalog def.target) (through catalog (Some def) rows)
-derived_block catalog is view def rows at of = ?
+derived_block catalog is view def rows at block =
+    let in_it = view_in catalog is view def at in
+    let views : All (IsViewIn catalog) catalog.views = subst (λ (c : Catalog). All (IsViewIn c) c.views) is.2 (schema-views is.0 is.1) in
+    let apt : All IsAptTable catalog.tables = subst (λ (c : Catalog). All IsAptTable c.tables) is.2 (schema-apt is.0 is.1) in
+    let linked : slice_get (links_of catalog.views) view ≡ Some (link_of def) = slice_get-map link_of catalog.views view ∙ ap (option_map link_of) at in
+    let kinds : (form_at catalog def.source).kinds ≡ kinds_of in_it.source = ap (λ found. (form_in found).kinds) in_it.reads in
+    let from : AreRowsOf in_it.source rows =
+    record {
+      kinds_fit = subst (λ (k : List Kind). AllAreOf k rows) kinds block.kinds_fit;
+      most = block.few;
+      sets = subst (λ (k : List Kind). SetsWithin (2 ^ 40) k rows) kinds block.sets;
+    } in
+    let made = through-fits catalog views apt view (link_of def) in_it.source linked in_it.reads rows from in
+    let after : kinds_of made.0 ≡ (form_at catalog def.target).kinds = sym (ap (λ found. (form_in found).kinds) made.1) in
+    let here : IsBlockOf (form_at catalog def.target) (through catalog (slice_get catalog.views view) rows) =
+    record {
+      kinds_fit = subst (λ (k : List Kind). AllAreOf k (through catalog (slice_get catalog.views view) rows)) after made.2.kinds_fit;
+      few = made.2.most;
+      sets = subst (λ (k : List Kind). SetsWithin (2 ^ 40) k (through catalog (slice_get catalog.views view) rows)) after made.2.sets;
+    } in
+    subst (λ (v : Option ViewDef). IsBlockOf (form_at catalog def.target) (through catalog v rows)) at here
 
 -- no items are none
 pub none_left : {A : Type 0} (xs : List A) → length xs ≡ 0 → xs ≡ []

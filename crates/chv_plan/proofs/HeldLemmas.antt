@@ -1,18 +1,24 @@
 -- What is held of blocks, and of what is below them.
-use Rattle.std.proofs.Common.{◌≡◌, ◌∙◌, ◌≤◌, ◌+◌, ◌-◌, ◌||◌, ℕ, Bool, suc, false, not, List, [], ◌∷◌, ◌++◌, length, map, Option, Some, refl, sym, ap, ap₂, subst, arith, append_assoc}
+use Rattle.std.proofs.Common.{◌≡◌, ◌∙◌, ◌≤◌, ◌+◌, ◌-◌, ◌||◌, ℕ, Bool, suc, false, not, List, [], ◌∷◌, ◌++◌, length, map, Option, Ok, Some, refl, sym, ap, ap₂, subst, arith, append_assoc}
 use Rattle.std.specs.List.{All, filter, list_any}
 use Rattle.std.proofs.lemmas.List.{append-nil}
 use Rattle.std.proofs.lemmas.List.Elements.{All-nil, All-cons, All-head, All-tail}
 use Rattle.std.proofs.lemmas.List.Folds.{list_any-append}
-use Rattle.chv_block.specs.Spellings.{AllAreOf}
+use Rattle.chv_ast.specs.declared.expr.Literal.{Literal}
+use Rattle.chv_block.specs.Blocks.{blocks_of}
+use Rattle.chv_block.specs.Spellings.{AllAreOf, IsSmall}
+use Rattle.chv_block.specs.declared.squasher.Sizes.{Sizes}
 use Rattle.chv_catalog.specs.Paths.{MAX_PATH, links_of, paths_from, paths_within}
 use Rattle.chv_catalog.specs.Schemas.{Catalog}
 use Rattle.chv_group.specs.Groups.{is_empty}
-use Rattle.chv_part.specs.Books.{TableForm}
+use Rattle.chv_part.specs.Books.{MAX_ROWS, TableForm}
 use Rattle.chv_part.specs.Parts.{part_file}
 use Rattle.chv_query.proofs.ArrivalLemmas.{ArrivesIn}
+use Rattle.chv_query.proofs.JoinLemmas.{All-blocks_of}
+use Rattle.chv_query.proofs.LiteralRowLemmas.{rows_small}
+use Rattle.chv_query.proofs.ViewFits.{SetsWithin-small}
 use Rattle.chv_query.specs.Derived.{derived, divides_along, form_at, form_in}
-use Rattle.chv_query.specs.Plans.{AreBlocks, Delivery, block_deliveries, deliveries_of, delivery_along, divides_below, source_of}
+use Rattle.chv_query.specs.Plans.{AreBlocks, Delivery, block_deliveries, deliveries_of, delivery_along, divides_below, rows_for, sized_rows, source_of}
 use Rattle.chv_sip.specs.BlockIds.{SourceKey, source_id}
 use Rattle.chv_sip.specs.declared.block_id.BlockId.{BlockId}
 use Rattle.chv_types.specs.declared.kind.Kind.{Kind}
@@ -22,13 +28,26 @@ use Rattle.chv_plan.specs.Deliveries.{DeliversAll}
 use Rattle.chv_plan.specs.declared.delivery.Delivery.{Delivery as Held}
 use Rattle.chv_plan.proofs.BelowLemmas.{Holds-along, HoldsAll-append}
 
--- the blocks of rows that are cut are blocks of their table
-pub are_blocks : (form : TableForm) (kinds : List Kind) (most : ℕ) (blocks : List (List (List Value))) → kinds ≡ form.kinds → most ≤ 1048576 → AreBlocks kinds most blocks → All (IsBlockOf form) blocks
-are_blocks form kinds most [] same few are = All-nil (IsBlockOf form)
-are_blocks form kinds most (block ∷ blocks) same few are =
+-- blocks of small values that are cut of rows are blocks of their table
+pub are_blocks : (form : TableForm) (kinds : List Kind) (most : ℕ) (blocks : List (List (List Value))) → kinds ≡ form.kinds → most ≤ MAX_ROWS → All (All (All IsSmall)) blocks → AreBlocks kinds most blocks
+    → All (IsBlockOf form) blocks
+are_blocks form kinds most [] same few small are = All-nil (IsBlockOf form)
+are_blocks form kinds most (block ∷ blocks) same few small are =
+    let short : length block ≤ MAX_ROWS = omega (arith, are.2, few) in
     All-cons (IsBlockOf form) block blocks
-    (record { kinds_fit = subst (λ (k : List Kind). AllAreOf k block) same are.0; few = omega (arith, are.2, few) })
-    (are_blocks form kinds (most - length block) blocks same (omega (arith, few)) are.3)
+    (record {
+      kinds_fit = subst (λ (k : List Kind). AllAreOf k block) same are.0;
+      few = short;
+      sets = SetsWithin-small form.kinds block (All-head (All (All IsSmall)) block blocks small) short;
+    })
+    (are_blocks form kinds (most - length block) blocks same (omega (arith, few)) (All-tail (All (All IsSmall)) block blocks small) are.3)
+
+-- so are the blocks of rows that literals write
+pub written_blocks : (form : TableForm) (kinds : List Kind) (places : List ℕ) (lists : List (List Literal)) (sizes : Sizes) (written : List (List Value)) (blocks : List (List (List Value))) → kinds ≡ form.kinds → 1 ≤ sizes.max_rows
+    → length lists ≤ MAX_ROWS → rows_for kinds places lists ≡ Ok written → blocks ≡ blocks_of sizes (sized_rows kinds written) → AreBlocks kinds (length lists) blocks → All (IsBlockOf form) blocks
+written_blocks form kinds places lists sizes written blocks same whole few read is are =
+    are_blocks form kinds (length lists) blocks same few
+    (subst (All (All (All IsSmall))) (sym is) (All-blocks_of (All IsSmall) kinds sizes written whole (rows_small kinds places lists written read))) are
 
 module _ (catalog : Catalog) (table : ℕ) where
   same_paths : (paths : List (List ℕ)) → map (λ (path : List ℕ). [] ++ path) paths ≡ paths

@@ -1,5 +1,5 @@
 -- Blocks along paths, and what is held of them.
-use Rattle.std.specs.Prelude.{ℕ, ◌≡◌, ◌≤◌, ◌∷◌, ◌++◌, [], false, true, not, List, length, map}
+use Rattle.std.specs.Prelude.{ℕ, ◌≡◌, ◌≤◌, ◌^◌, ◌∷◌, ◌++◌, [], false, true, not, List, length, map}
 use Rattle.std.specs.List.{filter, list_any}
 use Rattle.chv_ast.specs.declared.refusal.Refusal.{Refusal}
 use Rattle.chv_ast.specs.declared.refusal.Refusal.TheVariants.{DivisionByZero}
@@ -12,6 +12,7 @@ use Rattle.chv_catalog.specs.declared.link.Link.{Link}
 use Rattle.chv_group.specs.Groups.{is_empty}
 use Rattle.chv_part.specs.Books.{MAX_ROWS, TableForm, normal_rows}
 use Rattle.chv_part.specs.Parts.{part_file}
+use Rattle.chv_query.proofs.GroupFits.{SetsWithin}
 use Rattle.chv_query.specs.Derived.{derived, divides_along, form_at}
 use Rattle.chv_query.specs.Plans.{Delivery, delivery_along}
 use Rattle.chv_sip.specs.BlockIds.{SourceKey, source_id}
@@ -19,10 +20,12 @@ use Rattle.chv_sip.specs.declared.block_id.BlockId.{BlockId}
 use Rattle.chv_types.specs.declared.value.Value.{Value}
 use Rattle.chv_plan.specs.declared.delivery.Delivery.{Delivery as Held}
 
--- a block for a table of this form: rows of its kinds, and no more than a block has
+-- a block for a table of this form: rows of its kinds, no more than a block has, and with no larger sets in states than one
+-- brings that is inserted
 pub record IsBlockOf (form : TableForm) (rows : List (List Value)) : Type 0 where
   pub kinds_fit : AllAreOf form.kinds rows
   pub few : length rows ≤ MAX_ROWS
+  pub sets : SetsWithin (2 ^ 40) form.kinds rows
 
 -- what is held of rows that arrive in a table of this form under an id
 pub record IsHeld (form : TableForm) (table : ℕ) (id : BlockId) (rows : List (List Value)) (held : Held) : Type 0 where

@@ -5,7 +5,7 @@ use Rattle.chv_query.specs.Derived.{form_at, form_in}
 use Rattle.chv_plan.specs.Places.{filled_places}
 use Rattle.chv_query.specs.Plans.{sizes_for}
 use Rattle.chv_plan.proofs.CatalogLemmas.{table_within}
-use Rattle.chv_plan.proofs.HeldLemmas.{are_blocks}
+use Rattle.chv_plan.proofs.HeldLemmas.{written_blocks}
 use Rattle.chv_query.proofs.JoinLemmas.{length-AreBlocks}
 use Rattle.chv_plan.proofs.PlanLemmas.{Brings-blocks, divided, sizes_refused_for}
 use Rattle.chv_plan.proofs.insert.plan_for.Goals as goal
@@ -17,8 +17,9 @@ pub deliveries_of-requires-clause-blocks : goal.deliveries_of-requires-clause-bl
 deliveries_of-requires-clause-blocks c =
     let same : c.as_slice-2.result.now ≡ (form_at c.args.schema.now.catalog c.args.table).kinds =
     c.as_slice-2.ensures ∙ c.in_ok-kinds.ensures ∙ sym (ap (λ found. (form_in found).kinds) c.requires.table.1) in
-    are_blocks (form_at c.args.schema.now.catalog c.args.table) c.as_slice-2.result.now (length c.as_slice-rows.result.now) c.in_ok-blocks.blocks.items same
-    (omega (arith, ap length c.as_slice-rows.ensures, c.if-len-gt-MAX_ROWS.false, c.len.ensures)) c.in_ok-blocks.ensures.each
+    let blocks = c.in_ok-blocks.ensures.blocks in
+    written_blocks (form_at c.args.schema.now.catalog c.args.table) c.as_slice-2.result.now c.as_slice-3.result.now c.as_slice-rows.result.now c.in_ok-sizes.sizes blocks.0 c.in_ok-blocks.blocks.items same
+    c.in_ok-sizes.ensures.sizes.1 (omega (arith, ap length c.as_slice-rows.ensures, c.if-len-gt-MAX_ROWS.false, c.len.ensures)) blocks.1 blocks.2 c.in_ok-blocks.ensures.each
 
 pub deliveries_of-requires-clause-few : goal.deliveries_of-requires-clause-few
 deliveries_of-requires-clause-few c =
