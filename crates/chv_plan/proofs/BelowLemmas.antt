@@ -1,5 +1,5 @@
 -- What is held of blocks along paths.
-use Rattle.std.proofs.Common.{◌≡◌, ◌∙◌, ◌≤◌, ◌<◌, ◌+◌, ◌-◌, ◌≢◌, ◌||◌, ℕ, suc, Bool, true, false, not, List, [], ◌∷◌, ◌++◌, length, map, drop, Option, None, Some, Result, Ok, Err, get_or, slice_get, option_map, refl, sym, ap, ap₂, subst, arith, append_assoc}
+use Rattle.std.proofs.Common.{◌≡◌, ◌∙◌, ◌≤◌, ◌+◌, ◌-◌, ◌≢◌, ◌||◌, ℕ, suc, Bool, true, false, not, List, [], ◌∷◌, ◌++◌, length, map, drop, Option, None, Some, Result, Ok, Err, get_or, slice_get, option_map, refl, sym, ap, ap₂, subst, arith, append_assoc}
 use Rattle.std.specs.List.{filter, list_any}
 use Rattle.std.proofs.lemmas.List.{append-nil, length-map, map-append}
 use Rattle.std.proofs.lemmas.List.Elements.{filter-append}
@@ -13,8 +13,6 @@ use Rattle.chv_catalog.specs.Walks.{paths_by}
 use Rattle.chv_catalog.specs.declared.link.Link.{Link}
 use Rattle.chv_catalog.specs.declared.view_def.ViewDef.{ViewDef}
 use Rattle.chv_group.specs.Groups.{is_empty}
-use Rattle.chv_part.specs.Books.{TableForm, normal_rows}
-use Rattle.chv_part.specs.Parts.{part_file}
 use Rattle.chv_query.specs.Arrivals.{contribution_id, end_at, names_along}
 use Rattle.chv_query.specs.Derived.{derived, divides_along, divides_by, divides_in, form_at, through, viewed_by}
 use Rattle.chv_query.specs.Plans.{Delivery, delivery_along}

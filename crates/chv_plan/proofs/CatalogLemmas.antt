@@ -1,5 +1,5 @@
 -- The views of a catalog that a schema defines, and the same views bound.
-use Rattle.std.proofs.Common.{◌≡◌, ◌∙◌, ◌≤◌, ◌<◌, ◌-◌, ◌+◌, ◌&&◌, ℕ, Bool, true, nat_lt, zero, suc, List, [], ◌∷◌, ◌++◌, length, get_or, take, Option, None, Some, Result, Ok, Err, slice_get, option_map, ◌^◌, refl, sym, ap, subst, arith}
+use Rattle.std.proofs.Common.{◌≡◌, ◌∙◌, ◌≤◌, ◌<◌, ◌-◌, ◌&&◌, ℕ, Bool, nat_lt, zero, suc, List, [], ◌∷◌, ◌++◌, length, get_or, take, Option, None, Some, Result, Ok, Err, slice_get, option_map, ◌^◌, refl, sym, ap, subst, arith}
 use Rattle.std.specs.List.{All, list_all}
 use Rattle.std.proofs.lemmas.Bool.{and_parts, ltb-true}
 use Rattle.std.proofs.lemmas.List.Elements.{All-append, All-cons, All-head, All-nil, All-tail, All-weaker}
@@ -7,10 +7,8 @@ use Rattle.std.proofs.lemmas.Option.{slice_get-map, slice_get_within}
 use Rattle.chv_ast.specs.Formed.{WellFormed}
 use Rattle.chv_ast.specs.Words.{IsName, begins_word, is_word_byte, is_word_text}
 use Rattle.chv_ast.specs.declared.refusal.Refusal.{Refusal}
-use Rattle.chv_ast.specs.declared.statement.CreateView.{CreateView}
 use Rattle.chv_ast.specs.declared.statement.Select.{Select}
 use Rattle.chv_ast.specs.declared.statement.Statement.{Statement}
-use Rattle.chv_ast.specs.declared.statement.Statement.TheVariants as statement
 use Rattle.chv_block.proofs.FitLemmas.{rows_fit}
 use Rattle.chv_block.specs.Spellings.{AllAreOf}
 use Rattle.chv_catalog.proofs.StepLemmas.{and_then-Ok}
@@ -28,7 +26,7 @@ use Rattle.chv_query.proofs.EntryLemmas.{AreRowsOf, through-fits}
 use Rattle.chv_query.proofs.GroupFits.{SetsWithin}
 use Rattle.chv_query.proofs.GrowthLemmas.{All-at, IsViewIn, schema-views}
 use Rattle.chv_query.proofs.ViewLemmas.{passed_view}
-use Rattle.chv_query.specs.Accepted.{Accepted, AreAccepted, Defines, catalog_of, views_in, views_of}
+use Rattle.chv_query.specs.Accepted.{Accepted, AreAccepted, Defines, views_in, views_of}
 use Rattle.chv_query.specs.Arrivals.{names_along}
 use Rattle.chv_query.specs.Bound.{AnswersAs, TakesRow}
 use Rattle.chv_query.specs.Derived.{columns_at, def_at, divides_in, form_at, form_in, through, viewed}

@@ -1,5 +1,5 @@
 -- What is held of blocks, and of what is below them.
-use Rattle.std.proofs.Common.{◌≡◌, ◌∙◌, ◌≤◌, ◌+◌, ◌-◌, ◌||◌, ℕ, Bool, suc, false, not, List, [], ◌∷◌, ◌++◌, length, map, Option, Ok, Some, refl, sym, ap, ap₂, subst, arith, append_assoc}
+use Rattle.std.proofs.Common.{◌≡◌, ◌∙◌, ◌≤◌, ◌+◌, ◌-◌, ℕ, Bool, false, not, List, [], ◌∷◌, ◌++◌, length, map, Option, Ok, refl, sym, ap, subst, arith, append_assoc}
 use Rattle.std.specs.List.{All, filter, list_any}
 use Rattle.std.proofs.lemmas.List.{append-nil}
 use Rattle.std.proofs.lemmas.List.Elements.{All-nil, All-cons, All-head, All-tail}
@@ -23,7 +23,7 @@ use Rattle.chv_sip.specs.BlockIds.{SourceKey, source_id}
 use Rattle.chv_sip.specs.declared.block_id.BlockId.{BlockId}
 use Rattle.chv_types.specs.declared.kind.Kind.{Kind}
 use Rattle.chv_types.specs.declared.value.Value.{Value}
-use Rattle.chv_plan.specs.Below.{AreHeld, Holds, HoldsAll, IsBlockOf, IsHeld, deliveries_behind}
+use Rattle.chv_plan.specs.Below.{AreHeld, HoldsAll, IsBlockOf, IsHeld, deliveries_behind}
 use Rattle.chv_plan.specs.Deliveries.{DeliversAll}
 use Rattle.chv_plan.specs.declared.delivery.Delivery.{Delivery as Held}
 use Rattle.chv_plan.proofs.BelowLemmas.{Holds-along, HoldsAll-append}

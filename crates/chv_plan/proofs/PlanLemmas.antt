@@ -1,5 +1,5 @@
 -- What an INSERT brings, step by step.
-use Rattle.std.proofs.Common.{◌≡◌, ◌≤◌, ◌+◌, ◌-◌, Bool, true, false, ℕ, List, [], ◌∷◌, length, Option, Some, None, option_map, Result, Ok, Err, nat_lt, slice_get, refl, sym, ap, subst, ◌∙◌, arith, rules, tests}
+use Rattle.std.proofs.Common.{◌≡◌, ◌≤◌, ◌+◌, ◌-◌, Bool, true, false, ℕ, List, length, Option, Some, None, option_map, Result, Ok, Err, nat_lt, slice_get, refl, sym, ap, subst, ◌∙◌, arith, rules, tests}
 use Rattle.std.specs.List.{All, list_any}
 use Rattle.chv_ast.specs.declared.expr.Literal.{Literal}
 use Rattle.chv_ast.specs.declared.statement.Insert.{Insert}

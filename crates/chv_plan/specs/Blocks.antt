@@ -1,6 +1,5 @@
 -- Blocks as deliveries.
-use Rattle.std.specs.Prelude.{ℕ, false, ◌≡◌, ◌≤◌, List, length, Ok}
-use Rattle.std.specs.List.{list_any}
+use Rattle.std.specs.Prelude.{ℕ, ◌≡◌, ◌≤◌, List, length, Ok}
 use Rattle.chv_ast.specs.declared.statement.Insert.{Insert}
 use Rattle.chv_catalog.specs.Schemas.{Catalog, kinds_of}
 use Rattle.chv_catalog.specs.declared.table_def.TableDef.{TableDef}

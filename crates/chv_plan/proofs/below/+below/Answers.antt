@@ -1,9 +1,8 @@
 -- What is held of the paths by the next view is put behind what is held so far.
-use Rattle.std.proofs.Common.{rules, ◌≡◌, ◌∙◌, ◌≤◌, ◌<◌, ◌+◌, ◌-◌, ◌++◌, ◌∷◌, [], ℕ, List, length, ap, subst, sym, arith, length-append, true}
+use Rattle.std.proofs.Common.{rules, ◌≡◌, ◌∙◌, ◌<◌, ◌+◌, ◌++◌, ◌∷◌, [], ℕ, length, ap, subst, sym, arith, length-append}
 use Rattle.std.specs.List.{All}
 use Rattle.std.proofs.lemmas.List.Elements.{All-append, All-cons, All-nil}
 use Rattle.std.proofs.lemmas.Result.{err_from_is_err_and}
-use Rattle.chv_catalog.specs.Paths.{MAX_PATH}
 use Rattle.chv_plan.proofs.BelowLemmas.{AreHeld-empty, IsDone, IsDone-first, IsDone-more, IsDone-refused, IsDone-skip, held_through, refused-below}
 use Rattle.chv_plan.proofs.CatalogLemmas.{AreBound-at, AreBound-length, made_block, none_left, table_within, target_is, view_in}
 use Rattle.chv_plan.proofs.below.+below.Goals as goal

@@ -1,4 +1,4 @@
-use Rattle.std.proofs.Common.{◌≡◌, length, slice_get, Some, true, false, arith}
+use Rattle.std.proofs.Common.{true, false, arith}
 use Rattle.chv_plan.proofs.CatalogLemmas.{AreBound-at, AreBound-length, divides_so, makes, some_there, takes_source}
 use Rattle.chv_plan.proofs.below.made_by.Goals as goal
 

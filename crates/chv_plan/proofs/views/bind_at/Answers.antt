@@ -1,6 +1,5 @@
 use Rattle.std.proofs.lemmas.Result.{err_from_is_err_and}
-use Rattle.std.proofs.Common.{◌≡◌, ◌∙◌, sym}
-use Rattle.chv_catalog.specs.declared.fault.StatementFault.TheVariants.{NoMemory}
+use Rattle.std.proofs.Common.{◌∙◌}
 use Rattle.chv_query.specs.Queries.{asked}
 use Rattle.chv_query.specs.ViewQueries.{IsViewQuery}
 use Rattle.chv_plan.proofs.CatalogLemmas.{not_refused, table_within, view_in}

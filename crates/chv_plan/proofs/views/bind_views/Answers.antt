@@ -1,6 +1,5 @@
 use Rattle.std.proofs.Common.{arith}
-use Rattle.chv_catalog.specs.declared.view_def.ViewDef.{ViewDef}
-use Rattle.std.proofs.Common.{◌≡◌, ◌<◌, ◌+◌, ◌∷◌, ◌++◌, [], length, List, subst, sym, take}
+use Rattle.std.proofs.Common.{◌<◌, ◌+◌, length, List, subst, sym, take}
 use Rattle.chv_plan.proofs.CatalogLemmas.{AreBound-more, some_there}
 use Rattle.chv_plan.specs.Bound.{AreBound}
 use Rattle.chv_plan.specs.declared.views.BoundView.{BoundView}
