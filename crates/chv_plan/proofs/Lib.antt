@@ -1,4 +1,6 @@
+pub mod BelowLemmas
 pub mod BlockLemmas
+pub mod CatalogLemmas
 pub mod FeedLemmas
 pub mod HeldLemmas
 pub mod PlaceLemmas

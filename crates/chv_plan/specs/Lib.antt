@@ -1,3 +1,5 @@
+pub mod Below
 pub mod Blocks
+pub mod Bound
 pub mod Deliveries
 pub mod Places

@@ -28,4 +28,5 @@ pub mod TableLemmas
 pub mod TakesLemmas
 pub mod ViewFits
 pub mod ViewLemmas
+pub mod ViewQueryLemmas
 pub mod WholeRowLemmas

@@ -13,4 +13,5 @@ pub mod Results
 pub mod Shapes
 pub mod Shown
 pub mod Tables
+pub mod ViewQueries
 pub mod Views

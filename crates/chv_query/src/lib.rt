@@ -14,9 +14,11 @@ mod query;
 mod run;
 mod running;
 mod shape;
+mod view;
 
 pub use binding::bind;
 pub use fault::BlockFault;
 pub use groups::Groups;
 pub use query::{Query, Sort};
 pub use run::{run_block, run_rows};
+pub use view::{ViewQuery, bind_view, run_view};

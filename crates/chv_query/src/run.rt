@@ -75,8 +75,8 @@ fn shows_rows(outputs: &[Bound], rows: &[Row]) -> bool
     are_columns(outputs) && have_width(rows, outputs.len())
 }
 
-// Whether each of some rows has so many values.
-fn have_width(rows: &[Row], width: usize) -> bool
+/// Whether each of some rows has so many values.
+pub fn have_width(rows: &[Row], width: usize) -> bool
     ensures { IsTrue result → All (λ row. length row ≡ width) rows.now }
 {
     rows.iter().all(|row| row.len() == width)

@@ -3,7 +3,7 @@ use Rattle.std.proofs.lemmas.Result.{IfOk-weaker}
 use Rattle.chv_query.specs.Tables.{table_of}
 use Rattle.chv_catalog.specs.Schemas.{table_names}
 use Rattle.chv_types.specs.Names.{place_of}
-use Rattle.chv_plan.proofs.PlanLemmas.{found_table, planned_there, delivered, one_table-Brings, count-Brings}
+use Rattle.chv_plan.proofs.PlanLemmas.{found_table, planned_there, delivered, count-Brings}
 use Rattle.chv_plan.proofs.insert.plan_insert.Goals.{After-table_def}
 use Rattle.chv_plan.proofs.insert.plan_insert.Goals as goal
 
@@ -19,7 +19,7 @@ returns-in-Some-clause-planned c =
     let stands = found (goal.at.returns-in-Some-clause-planned c).After-table_def in
     IfOk-weaker c.plan_for.result _ _
     (λ held brings.
-    delivered c.args.schema.now.catalog.tables c.args.insert.now c.in-Some.number c.table_def.result.now held.deliveries _ c.table_def.ensures stands.1
+    delivered c.args.schema.now.catalog c.requires.schema c.args.insert.now c.in-Some.number c.table_def.result.now held.deliveries
     (planned_there c.args.schema.now.catalog c.args.insert.now c.in-Some.number c.table_def.result.now stands.0) brings)
     c.plan_for.ensures.planned
 
@@ -28,10 +28,6 @@ returns-in-Some-clause-refused c =
     let stands = found (goal.at.returns-in-Some-clause-refused c).After-table_def in
     rw (planned_there c.args.schema.now.catalog c.args.insert.now c.in-Some.number c.table_def.result.now stands.0) c.plan_for.ensures.refused
 
-pub returns-in-Some-clause-one_table : goal.returns-in-Some-clause-one_table
-returns-in-Some-clause-one_table c =
-    IfOk-weaker c.plan_for.result _ _ (λ held brings. one_table-Brings _ _ c.args.insert.now held.deliveries brings) c.plan_for.ensures.planned
-
 pub returns-in-Some-clause-count : goal.returns-in-Some-clause-count
 returns-in-Some-clause-count c =
-    IfOk-weaker c.plan_for.result _ _ (λ held brings. count-Brings _ _ c.args.insert.now held.deliveries brings) c.plan_for.ensures.planned
+    IfOk-weaker c.plan_for.result _ _ (λ held brings. count-Brings c.args.schema.now.catalog _ _ c.args.insert.now held.deliveries brings) c.plan_for.ensures.planned

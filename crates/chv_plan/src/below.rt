@@ -1,0 +1,174 @@
+// Blocks along paths.
+ghost use Rattle.std.specs.Prelude.{◌≡◌, ◌≤◌, ◌<◌, ◌+◌, ◌++◌, ◌∷◌, [], false, true, length, slice_get, Some, IfOk, IfErr};
+ghost use Rattle.std.specs.List.{All};
+ghost use Rattle.chv_ast.specs.declared.refusal.Refusal.{Refusal};
+ghost use Rattle.chv_block.specs.Spellings.{AllAreOf};
+ghost use Rattle.chv_catalog.specs.Paths.{MAX_PATH, links_of, paths_within};
+ghost use Rattle.chv_catalog.specs.declared.view_def.ViewDef.{ViewDef as SomeView};
+ghost use Rattle.chv_query.specs.Derived.{divides_in, form_at, through};
+ghost use Rattle.chv_plan.specs.Below.{AreHeld, IsBlockOf, IsHeld, Refuses, paths_through};
+ghost use Rattle.chv_plan.specs.Bound.{AreBound, IsCatalog};
+
+use crate::Delivery;
+use crate::ids::id_along;
+use crate::views::BoundView;
+use chv_ast::Refusal;
+use chv_catalog::{Schema, StatementFault};
+use chv_merge::normal;
+use chv_part::encode_part;
+use chv_query::{BlockFault, run_view};
+use chv_sip::BlockId;
+use chv_types::{Block, Kinds};
+use std::alloc::{AllocError, Global};
+
+/// What is derived from a block along each path of so many views at most that goes on from a table. To there a path led, along
+/// which these rows were derived. Each block is derived once, whatever goes on from it.
+#[cycle(below)]
+pub fn deliveries_below(
+    alloc: Global,
+    schema: &Schema,
+    views: &[BoundView],
+    id: BlockId,
+    room: u32,
+    table: u32,
+    path: &[u32],
+    rows: &Block,
+) -> Result<Vec<Delivery>, StatementFault>
+    requires schema { IsCatalog schema.now.catalog }
+    requires bound { AreBound schema.now.catalog schema.now.catalog.views views.now }
+    requires there { All (λ view. view < length schema.now.catalog.views) path.now }
+    requires short { length path.now + room ≤ MAX_PATH }
+    requires rows { IsBlockOf (form_at schema.now.catalog table) rows.now }
+    ensures held { IfOk result (λ held. AreHeld schema.now.catalog id path.now rows.now held.items (paths_within room (links_of schema.now.catalog.views) table)) }
+    ensures refused { IfErr result (λ fault. Refuses schema.now.catalog rows.now (paths_within room (links_of schema.now.catalog.views) table) fault) }
+{
+    let mut deliveries = Vec::new(alloc);
+    if room == 0 {
+        return Ok(deliveries);
+    }
+    for view in 0..schema.views() {
+        if schema.view_def(view).source == table {
+            let mut more = deliveries_through(
+                alloc,
+                schema,
+                views,
+                id,
+                room - 1,
+                view,
+                path,
+                rows,
+            )?;
+            deliveries.append(&mut more)?;
+        }
+    }
+    Ok(deliveries)
+}
+
+// What is derived from a block along each path that goes on by a view, with so many views at most behind it.
+#[cycle(below)]
+fn deliveries_through(
+    alloc: Global,
+    schema: &Schema,
+    views: &[BoundView],
+    id: BlockId,
+    room: u32,
+    view: u32,
+    path: &[u32],
+    rows: &Block,
+) -> Result<Vec<Delivery>, StatementFault>
+    requires schema { IsCatalog schema.now.catalog }
+    requires bound { AreBound schema.now.catalog schema.now.catalog.views views.now }
+    requires there { All (λ view. view < length schema.now.catalog.views) path.now }
+    requires last { view < length schema.now.catalog.views }
+    requires short { length path.now + room < MAX_PATH }
+    requires rows { (def : SomeView) → slice_get schema.now.catalog.views view ≡ Some def → IsBlockOf (form_at schema.now.catalog def.source) rows.now }
+    ensures held { IfOk result (λ held. AreHeld schema.now.catalog id path.now rows.now held.items (paths_through room (links_of schema.now.catalog.views) view)) }
+    ensures refused { IfErr result (λ fault. Refuses schema.now.catalog rows.now (paths_through room (links_of schema.now.catalog.views) view) fault) }
+{
+    let made = made_by(alloc, schema, views, view, rows)?;
+    if made.len() == 0 {
+        return Ok(Vec::new(alloc));
+    }
+    let path = longer(alloc, path, view)?;
+    let target = schema.view_def(view).target;
+    // What is below sees the rows as they arrive, before they are put into normal form.
+    let below = deliveries_below(alloc, schema, views, id, room, target, &path, &made)?;
+    let id = id_along(schema, id, &path);
+    let first = delivery_to(alloc, schema, target, &views[view as usize].kinds, id, made)?;
+    Ok(put_first(alloc, first, below)?)
+}
+
+// What a view makes of rows of its source.
+fn made_by(
+    alloc: Global,
+    schema: &Schema,
+    views: &[BoundView],
+    view: u32,
+    rows: &Block,
+) -> Result<Block, StatementFault>
+    requires schema { IsCatalog schema.now.catalog }
+    requires bound { AreBound schema.now.catalog schema.now.catalog.views views.now }
+    requires last { view < length schema.now.catalog.views }
+    requires rows { (def : SomeView) → slice_get schema.now.catalog.views view ≡ Some def → IsBlockOf (form_at schema.now.catalog def.source) rows.now }
+    ensures made { IfOk result (λ made. made ≡ through schema.now.catalog (slice_get schema.now.catalog.views view) rows.now) }
+    ensures sound { IfOk result (λ made. divides_in schema.now.catalog (slice_get schema.now.catalog.views view) rows.now ≡ false) }
+    ensures refused { IfErr result (λ fault. (refusal : Refusal) → fault ≡ StatementFault.Refused refusal → (refusal ≡ Refusal.DivisionByZero) × (divides_in schema.now.catalog (slice_get schema.now.catalog.views view) rows.now ≡ true)) }
+{
+    match run_view(alloc, &views[view as usize].query, rows) {
+        Ok(made) => Ok(made),
+        Err(BlockFault::ZeroDivisor { row: _ }) => {
+            Err(StatementFault::Refused(Refusal::DivisionByZero))
+        }
+        Err(BlockFault::NoMemory) => Err(StatementFault::NoMemory),
+    }
+}
+
+// A path with a view more.
+fn longer(alloc: Global, path: &[u32], view: u32) -> Result<Vec<u32>, AllocError>
+    ensures { IfOk result (λ longer. longer.items ≡ path.now ++ view ∷ []) }
+{
+    let mut longer = Vec::with_capacity(alloc, path.len() + 1)?;
+    longer.extend_from_slice(path)?;
+    longer.push(view)?;
+    Ok(longer)
+}
+
+/// Rows as a delivery to a table under an id.
+pub fn delivery_to(
+    alloc: Global,
+    schema: &Schema,
+    table: u32,
+    kinds: &Kinds,
+    id: BlockId,
+    rows: Block,
+) -> Result<Delivery, AllocError>
+    requires first { 1 ≤ table }
+    requires last { table ≤ length schema.now.catalog.tables }
+    requires kinds { kinds.now ≡ (form_at schema.now.catalog table).kinds }
+    requires rows { AllAreOf kinds.now rows }
+    ensures { IfOk result (λ held. IsHeld (form_at schema.now.catalog table) table id rows held) }
+{
+    let rows = normal(&schema.table_def(table).key, rows)?;
+    // Whether the block is skipped is decided as it is delivered, and no delivery takes memory.
+    let encoded = encode_part(alloc, kinds, &rows)?;
+    Ok(Delivery {
+        table,
+        id,
+        rows: rows.len() as u64,
+        encoded,
+    })
+}
+
+/// A delivery in front of others.
+pub fn put_first(
+    alloc: Global,
+    first: Delivery,
+    mut others: Vec<Delivery>,
+) -> Result<Vec<Delivery>, AllocError>
+    ensures { IfOk result (λ deliveries. deliveries.items ≡ first ∷ others.items) }
+{
+    let mut deliveries = Vec::new(alloc);
+    deliveries.push(first)?;
+    deliveries.append(&mut others)?;
+    Ok(deliveries)
+}
