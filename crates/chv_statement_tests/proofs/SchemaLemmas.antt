@@ -1,5 +1,5 @@
 -- Catalogs that schemas define.
-use Rattle.std.proofs.Common.{◌≡◌, ◌∙◌, ◌<◌, ◌≤◌, ◌++◌, ◌∷◌, [], None, true, List, length, refl, sym, ap, subst}
+use Rattle.std.proofs.Common.{◌≡◌, ◌∙◌, ◌<◌, ◌≤◌, ◌++◌, ◌∷◌, [], None, true, length, refl, sym, ap, subst}
 use Rattle.std.specs.List.{All}
 use Rattle.std.proofs.lemmas.List.Elements.{All-weaker}
 use Rattle.chv_catalog.specs.Schemas.{Catalog, definition_name, definitions_in, kinds_of, names_of, no_definitions, place_of, with_definition}
