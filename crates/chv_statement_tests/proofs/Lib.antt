@@ -1,2 +1,2 @@
-pub mod FewLemmas
+pub mod SchemaLemmas
 pub mod WrittenLemmas

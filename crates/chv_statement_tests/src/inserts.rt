@@ -1,58 +1,18 @@
 // INSERT statements and what they bring, written by hand.
-ghost use Rattle.std.specs.Prelude.{◌≤◌, length, IfSome};
-ghost use Rattle.std.specs.List.{All};
-ghost use Rattle.chv_catalog.specs.Schemas.{kinds_of};
-
-use crate::making::{defined, statement_of};
-use chv_ast::Statement;
-use chv_catalog::{Definition, Schema, StatementFault, TableDef};
-use chv_plan::{Delivery, Plan, plan_insert};
+use crate::paths::planned;
+use chv_catalog::StatementFault;
+use chv_plan::{Delivery, Plan};
 use chv_sip::BlockId;
 use std::alloc::Global;
 
-// A schema of one table, of at most 64 columns.
-#[tactic(auto, using(crate::proofs::FewLemmas::few_table))]
-fn schema_of(alloc: Global, def: TableDef) -> Option<Schema>
-    ensures few { IfSome result (λ schema. All (λ def. length (kinds_of def) ≤ 64) schema.catalog.tables) }
-{
-    if def.columns.len() > 64 {
-        return None;
-    }
-    let mut schema = Schema::new(alloc);
-    if schema.reserve_one(alloc, def.name.as_slice()).is_err() {
-        return None;
-    }
-    schema.accept(Definition::Table(def));
-    Some(schema)
-}
-
 // The table `t`, sorted by its third column.
-fn one_table(alloc: Global) -> Option<Schema>
-    ensures few { IfSome result (λ schema. All (λ def. length (kinds_of def) ≤ 64) schema.catalog.tables) }
-{
-    let text = b"CREATE TABLE t (a Int8, b Bool, c String, d UInt8) ENGINE = MergeTree ORDER BY c";
-    match defined(alloc, &Schema::new(alloc), text) {
-        Some(Ok(Definition::Table(def))) => schema_of(alloc, def),
-        _ => None,
-    }
-}
-
-// What a text brings to a table; None where it is no INSERT.
-fn planned(alloc: Global, schema: &Schema, text: &[u8]) -> Option<Result<Plan, StatementFault>>
-    requires few { All (λ def. length (kinds_of def) ≤ 64) schema.now.catalog.tables }
-{
-    match statement_of(alloc, text) {
-        Some(Statement::Insert(insert)) => Some(plan_insert(alloc, schema, &insert)),
-        _ => None,
-    }
-}
+const TABLE: &'static [&'static [u8]] = &[
+    b"CREATE TABLE t (a Int8, b Bool, c String, d UInt8) ENGINE = MergeTree ORDER BY c",
+];
 
 // What a text brings to the table `t`; None where it is no INSERT.
 fn plan_of(alloc: Global, text: &[u8]) -> Option<Result<Plan, StatementFault>> {
-    match one_table(alloc) {
-        Some(schema) => planned(alloc, &schema, text),
-        None => None,
-    }
+    planned(alloc, TABLE, text)
 }
 
 // The number of the refusal of a text, or 0 where it brings blocks; 98 where it is no INSERT, 99 for want of memory.

@@ -8,6 +8,10 @@ mod inserts;
 #[cfg(test)]
 mod making;
 #[cfg(test)]
+mod paths;
+#[cfg(test)]
+mod schemas;
+#[cfg(test)]
 mod tables;
 #[cfg(test)]
 mod views;

@@ -49,8 +49,8 @@ fn view_of(alloc: Global, schema: &Schema, made: CreateView) -> Result<Definitio
     Ok(Definition::View(define_view(alloc, schema, made)?))
 }
 
-// The name of what is defined.
-fn name_of(definition: &Definition) -> &[u8]
+/// The name of what is defined.
+pub fn name_of(definition: &Definition) -> &[u8]
     ensures { result.now ≡ definition_name definition.now }
 {
     match definition {

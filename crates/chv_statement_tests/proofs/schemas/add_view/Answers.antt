@@ -1,0 +1,8 @@
+use Rattle.std.proofs.Common.{refl}
+use Rattle.chv_ast.specs.declared.statement.Statement.TheVariants as statement
+use Rattle.chv_catalog.specs.declared.definition.Definition.TheVariants.{View}
+use Rattle.chv_statement_tests.proofs.schemas.add_view.Goals as goal
+
+pub put-requires-clause-accepted : goal.put-requires-clause-accepted
+put-requires-clause-accepted c =
+    (record { statement = statement.CreateView c.args.made; definition = View c.in-Ok.def }, refl, refl, record { formed = c.requires.formed; defines = c.in-Ok.ensures.defined })

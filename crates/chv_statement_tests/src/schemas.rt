@@ -1,0 +1,86 @@
+// Schemas, made of the texts of their statements.
+ghost use Rattle.std.specs.Prelude.{◌≡◌, true, IfSome};
+ghost use Rattle.chv_ast.specs.Formed.{FormedTable, FormedView};
+ghost use Rattle.chv_query.specs.Accepted.{Accepted, IsAccepted, is_built_create, is_built_table};
+ghost use Rattle.chv_plan.specs.Bound.{IsCatalog};
+
+use crate::making::{name_of, statement_of};
+use chv_ast::{CreateTable, CreateView, Statement};
+use chv_catalog::{Definition, Schema};
+use chv_define::{define, define_view, is_built_table};
+use std::alloc::Global;
+
+/// What the texts define, one after the other; None where one is refused.
+#[tactic(auto, using(crate::proofs::SchemaLemmas::nothing_defined))]
+pub fn schema_of(alloc: Global, texts: &[&[u8]]) -> Option<Schema>
+    ensures { IfSome result (λ schema. IsCatalog schema.catalog) }
+{
+    let mut schema = Schema::new(alloc);
+    for text in texts {
+        if !add(alloc, &mut schema, text) {
+            return None;
+        }
+    }
+    Some(schema)
+}
+
+// Adds what a text defines; false where it defines nothing.
+fn add(alloc: Global, schema: &mut Schema, text: &[u8]) -> bool
+    requires schema { IsCatalog schema.old.catalog }
+    ensures schema { IsCatalog schema.new.catalog }
+{
+    match statement_of(alloc, text) {
+        Some(Statement::CreateTable(made)) => add_table(alloc, schema, made),
+        Some(Statement::CreateView(made)) => add_view(alloc, schema, made),
+        _ => false,
+    }
+}
+
+fn add_table(alloc: Global, schema: &mut Schema, made: CreateTable) -> bool
+    requires schema { IsCatalog schema.old.catalog }
+    requires formed { FormedTable made }
+    ensures schema { IsCatalog schema.new.catalog }
+{
+    if is_built_table(&made) {
+        return add_built(alloc, schema, made);
+    }
+    false
+}
+
+fn add_built(alloc: Global, schema: &mut Schema, made: CreateTable) -> bool
+    requires schema { IsCatalog schema.old.catalog }
+    requires formed { FormedTable made }
+    requires built { is_built_table made ≡ true }
+    ensures schema { IsCatalog schema.new.catalog }
+{
+    match define(alloc, schema, &made) {
+        Ok(def) => put(alloc, schema, Definition::Table(def)),
+        Err(_) => false,
+    }
+}
+
+fn add_view(alloc: Global, schema: &mut Schema, made: CreateView) -> bool
+    requires schema { IsCatalog schema.old.catalog }
+    requires formed { FormedView made }
+    ensures schema { IsCatalog schema.new.catalog }
+{
+    match define_view(alloc, schema, made) {
+        Ok(def) => put(alloc, schema, Definition::View(def)),
+        Err(_) => false,
+    }
+}
+
+// Puts what is defined behind what stands.
+fn put(alloc: Global, schema: &mut Schema, definition: Definition) -> bool
+    requires schema { IsCatalog schema.old.catalog }
+    requires accepted { (accepted : Accepted) × (accepted.definition ≡ definition) × (is_built_create accepted.statement ≡ true) × IsAccepted schema.old.catalog accepted }
+    ensures schema { IsCatalog schema.new.catalog }
+{
+    match schema.reserve_one(alloc, name_of(&definition)) {
+        Ok(()) => {
+            schema.accept(definition);
+            true
+        }
+        Err(_) => false,
+    }
+}
