@@ -33,7 +33,7 @@ const CHECKS: &'static [(u8, &'static [u8])] = &[
     (2, b"CREATE MATERIALIZED VIEW w TO v AS SELECT a FROM s"),
     (2, b"CREATE MATERIALIZED VIEW w TO s AS SELECT a FROM v"),
     (
-        3,
+        6,
         b"CREATE MATERIALIZED VIEW w TO s AS SELECT a FROM p WHERE k",
     ),
     (
