@@ -67,6 +67,10 @@ AreBytes-tested [] h i = omega arith
 AreBytes-tested (byte ∷ bytes) h zero = ltb-true byte 256 (and_parts (nat_lt byte 256) (are_bytes bytes) h).0
 AreBytes-tested (byte ∷ bytes) h (suc i) = AreBytes-tested bytes (and_parts (nat_lt byte 256) (are_bytes bytes) h).1 i
 
+-- the bytes of a number are bytes
+pub AreBytes-number : (size n : ℕ) → AreBytes (little_bytes size n)
+AreBytes-number size n = AreBytes-tested (little_bytes size n) (are_bytes-number 0 size n)
+
 -- what stands in front is the first of so many bytes
 pub front_of-append : (size : ℕ) (a rest : List ℕ) → length a ≡ size → front_of size (a ++ rest) ≡ Some (a, rest)
 front_of-append size a rest long =

@@ -1,7 +1,7 @@
 pub mod DistinctLemmas
+pub mod EndLemmas
 pub mod FrontLemmas
 pub mod JoinFits
-pub mod JoinLemmas
 pub mod JoinOrder
 pub mod PairLemmas
 pub mod PlainLemmas

@@ -4,23 +4,20 @@ use Rattle.std.specs.Int.{to_le_bytes, w64}
 use Rattle.std.specs.List.{All}
 use Rattle.std.proofs.lemmas.Int.{ints}
 use Rattle.std.proofs.lemmas.List.Elements.{All-head, All-tail}
-use Rattle.chv_bytes.specs.Integers.{InRange, int_bytes}
+use Rattle.chv_bytes.specs.Integers.{InRange}
 use Rattle.chv_bytes.specs.Places.{StandsAt}
-use Rattle.chv_bytes.specs.declared.integer.IntKind.TheVariants.{U64, I64}
+use Rattle.chv_bytes.specs.declared.integer.IntKind.TheVariants.{U64}
 use Rattle.chv_bytes.proofs.IntegerLemmas.{one_integer}
 use Rattle.chv_types.specs.Fits.{IsOfScalar}
 use Rattle.chv_types.specs.Members.{Rises}
 use Rattle.chv_types.specs.Order.{value_cmp}
-use Rattle.chv_types.specs.declared.aggregate.AggName.TheVariants as agg
 use Rattle.chv_types.specs.declared.kind.Scalar.{Scalar}
 use Rattle.chv_types.specs.declared.kind.Scalar.TheVariants as scalar
 use Rattle.chv_types.specs.declared.value.Value.{Value}
 use Rattle.chv_types.specs.declared.value.Value.TheVariants.{Whole, Truth, Text, State}
+use Rattle.chv_agg.specs.AggregateLaws.{has_few, IsSet}
 use Rattle.chv_agg.specs.Plain.{scalar_spelling, values_spelling}
-use Rattle.chv_agg.specs.StateBytes.{state_bytes}
-use Rattle.chv_agg.specs.States.{FitsState}
-use Rattle.chv_agg.specs.declared.any_agg.AnyAgg.{AnyAgg}
-use Rattle.chv_agg.specs.declared.any_agg.AnyAgg.TheVariants.{Count, SumU, SumI, Uniq}
+use Rattle.chv_agg.specs.StateBytes.{set_bytes}
 
 -- where fewer than 8 bytes are left, nothing of 8 bytes and more stands
 cut_short : (spelling rest bytes : List ℕ) (at : ℕ) → 8 ≤ length spelling → length bytes < at + 8 → drop at bytes ≡ spelling ++ rest → ⊥
@@ -32,37 +29,9 @@ cut_short spelling rest bytes at long short same =
 length-number : (n : ℕ) → length (to_le_bytes w64 n) ≡ 8
 length-number n = refl
 
-wide_count : (arg : Scalar) (state : AnyAgg) → FitsState agg.Count arg state → 8 ≤ length (state_bytes arg state)
-unfolding state_bytes
-wide_count arg (Count n) h = omega (arith, length-number n)
-wide_count arg state h = absurd h
-
-wide_sum : (arg : Scalar) (state : AnyAgg) → FitsState agg.Sum arg state → 8 ≤ length (state_bytes arg state)
-unfolding state_bytes
-wide_sum arg (SumU n) h = omega (arith, length-number n)
-wide_sum arg (SumI n) h = let long : length (int_bytes I64 n) ≡ 8 = refl in omega (arith, long)
-wide_sum arg state h = absurd h
-
-wide_uniq : (arg : Scalar) (state : AnyAgg) → FitsState agg.UniqExact arg state → 8 ≤ length (state_bytes arg state)
-unfolding state_bytes
-wide_uniq arg (Uniq values) h =
-    omega (arith, length-number (length values), length-append (to_le_bytes w64 (length values)) (values_spelling arg values))
-wide_uniq arg state h = absurd h
-
--- where fewer than 8 bytes are left, no count stands
-pub none_count : (bytes : List ℕ) (at : ℕ) → length bytes < at + 8 → (arg : Scalar) (state : AnyAgg) (rest : List ℕ) → FitsState agg.Count arg state
-    → drop at bytes ≡ state_bytes arg state ++ rest → ⊥
-none_count bytes at short arg state rest h same = cut_short (state_bytes arg state) rest bytes at (wide_count arg state h) short same
-
--- no sum
-pub none_sum : (bytes : List ℕ) (at : ℕ) → length bytes < at + 8 → (arg : Scalar) (state : AnyAgg) (rest : List ℕ) → FitsState agg.Sum arg state
-    → drop at bytes ≡ state_bytes arg state ++ rest → ⊥
-none_sum bytes at short arg state rest h same = cut_short (state_bytes arg state) rest bytes at (wide_sum arg state h) short same
-
--- and no set
-pub none_uniq : (bytes : List ℕ) (at : ℕ) → length bytes < at + 8 → (arg : Scalar) (state : AnyAgg) (rest : List ℕ) → FitsState agg.UniqExact arg state
-    → drop at bytes ≡ state_bytes arg state ++ rest → ⊥
-none_uniq bytes at short arg state rest h same = cut_short (state_bytes arg state) rest bytes at (wide_uniq arg state h) short same
+-- where fewer than 8 bytes are left, no number of 64 bits stands
+pub none_number : (bytes : List ℕ) (at : ℕ) → length bytes < at + 8 → (n : ℕ) (rest : List ℕ) → drop at bytes ≡ to_le_bytes w64 n ++ rest → ⊥
+none_number bytes at short n rest same = cut_short (to_le_bytes w64 n) rest bytes at (omega (arith, length-number n)) short same
 
 -- a value of a kind has a byte or more
 pub some_bytes : (plain : Scalar) (value : Value) → IsOfScalar plain value → 1 ≤ length (scalar_spelling plain value)
@@ -107,12 +76,10 @@ set_behind arg bytes rest at start count values stands small fits same =
 -- where no values of their number that rise stand behind it, no set stands
 pub none_set : (arg : Scalar) (bytes : List ℕ) (at start count : ℕ) → StandsAt (to_le_bytes w64 count) bytes at start → count < 2 ^ 64
     → ((values : List Value) (rest : List ℕ) → All (IsOfScalar arg) values → Rises value_cmp values → length values ≡ count → drop start bytes ≡ values_spelling arg values ++ rest → ⊥)
-    → (state : AnyAgg) (rest : List ℕ) → FitsState agg.UniqExact arg state → drop at bytes ≡ state_bytes arg state ++ rest → ⊥
-unfolding state_bytes
-none_set arg bytes at start count stands small none (Uniq values) rest h same =
-    let e = set_behind arg bytes rest at start count values stands small h.2 same in
+    → (values : List Value) (rest : List ℕ) → IsSet arg values → has_few values → drop at bytes ≡ set_bytes arg values ++ rest → ⊥
+none_set arg bytes at start count stands small none values rest h few same =
+    let e = set_behind arg bytes rest at start count values stands small few same in
     none values rest h.0 h.1 e.0 e.1
-none_set arg bytes at start count stands small none state rest h same = absurd h
 
 -- where fewer bytes are left than values, there are not so many
 pub too_many : (arg : Scalar) (bytes : List ℕ) (start count : ℕ) → length bytes - start < count

@@ -1,5 +1,5 @@
 -- Lists of values that rise, and their spellings.
-use Rattle.std.proofs.Common.{◌≡◌, ℕ, zero, suc, ◌+◌, ◌<◌, ◌≤◌, List, [], ◌∷◌, ◌++◌, length, take, drop, get_or, true, false, Less, Equal, Greater, refl, sym, ap, ap₂, subst, ◌∙◌, arith, append_assoc, length-append}
+use Rattle.std.proofs.Common.{◌≡◌, ℕ, zero, suc, ◌+◌, ◌<◌, ◌≤◌, List, [], ◌∷◌, ◌++◌, length, take, drop, get_or, Bool, true, false, Less, Equal, Greater, refl, sym, ap, ap₂, subst, ◌∙◌, arith, append_assoc, length-append}
 use Rattle.std.proofs.lemmas.List.{append-nil, take_more}
 use Rattle.std.proofs.lemmas.List.Elements.{All-nil, All-cons, All-head, All-tail, All-append, All-weaker}
 use Rattle.std.specs.List.{All}
@@ -14,7 +14,7 @@ use Rattle.chv_types.specs.declared.kind.Scalar.{Scalar}
 use Rattle.chv_types.specs.declared.value.Value.{Value}
 use Rattle.chv_agg.specs.Plain.{scalar_spelling, values_spelling}
 use Rattle.chv_agg.specs.StateReading.{follows, Gains, RiseAt}
-use Rattle.chv_agg.proofs.PlainLemmas.{one_scalar}
+use Rattle.chv_agg.specs.PlainLaws.{one_scalar}
 
 -- an order that tests as less is Less
 pub is_lt-Less : (o : Ordering) → is_lt o ≡ true → o ≡ Less
@@ -136,13 +136,13 @@ none_longer plain old bytes at place count h shorter none values rest of rise lo
     none next.value (values_spelling plain next.more ++ rest) next.of
     (Rises-follows old next.more next.value (subst (Rises value_cmp) next.are rise)) next.left_is
 
--- where the value that stands somewhere is not above the last of a list, no value above it stands there
-pub none_above : (plain : Scalar) (old : List Value) (found : Value) (bytes : List ℕ) (at behind : ℕ) → StandsAt (scalar_spelling plain found) bytes at behind
-    → IsOfScalar plain found → follows old found ≡ false
-    → (value : Value) (rest : List ℕ) → IsOfScalar plain value → follows old value ≡ true → drop at bytes ≡ scalar_spelling plain value ++ rest → ⊥
-none_above plain old found bytes at behind stands of_found not_above value rest of above same =
-    let e = one_scalar plain found value (drop behind bytes) rest of_found of (sym stands.spelled ∙ same) in
-    let apart : false ≡ true = sym not_above ∙ ap (follows old) e.0 ∙ above in
+-- where the value that stands somewhere passes no test, no value that passes it stands there
+pub none_beyond : (arg : Scalar) (passes : Value → Bool) (found : Value) (bytes : List ℕ) (at behind : ℕ) → StandsAt (scalar_spelling arg found) bytes at behind
+    → IsOfScalar arg found → passes found ≡ false
+    → (value : Value) (rest : List ℕ) → IsOfScalar arg value → passes value ≡ true → drop at bytes ≡ scalar_spelling arg value ++ rest → ⊥
+none_beyond arg passes found bytes at behind stands of_found fails value rest of passed same =
+    let e = one_scalar arg found value (drop behind bytes) rest of_found of (sym stands.spelled ∙ same) in
+    let apart : false ≡ true = sym fails ∙ ap passes e.0 ∙ passed in
     cc
 
 -- the spelling of the first values, with one more

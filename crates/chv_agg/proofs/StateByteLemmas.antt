@@ -1,5 +1,5 @@
 -- A state has a byte or more.
-use Rattle.std.proofs.Common.{ℕ, ◌≤◌, length, Option, Some, None, arith}
+use Rattle.std.proofs.Common.{◌≤◌, length, Option, Some, None, arith}
 use Rattle.chv_types.specs.declared.kind.Scalar.{Scalar}
 use Rattle.chv_types.specs.declared.value.Value.{Value}
 use Rattle.chv_agg.specs.StateBytes.{found_bytes, state_bytes}

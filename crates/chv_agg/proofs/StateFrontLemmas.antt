@@ -25,7 +25,7 @@ use Rattle.chv_agg.specs.States.{FitsFound, FitsState, is_signed, join, unit_of}
 use Rattle.chv_agg.specs.declared.any_agg.AnyAgg.{AnyAgg}
 use Rattle.chv_agg.specs.declared.any_agg.AnyAgg.TheVariants.{Count, SumU, SumI, Least, Greatest, Uniq}
 use Rattle.chv_agg.proofs.FrontLemmas.{and_parts, if_Some, integer_again, map_Some, number_again, scalar_in-append, scalar_in-Some, then_Some, values_in-append, values_in-Some, word_of-append, word_of-Some}
-use Rattle.chv_agg.proofs.JoinLemmas.{join_assoc, join_comm}
+use Rattle.chv_agg.proofs.JoinOrder.{join-assoc, join-comm}
 use Rattle.chv_agg.proofs.SetLemmas.{is_lt-Less, Rises-front}
 
 -- what is read is spelled in front of the bytes, and is a state of the function over values of the kind
@@ -245,12 +245,12 @@ pub join_bytes-joined : (agg : AggName) (arg : Scalar) (a b : List ℕ) → Fits
 join_bytes-joined agg arg a b fits = state_in-spelled agg arg (join (state_in agg arg a) (state_in agg arg b)) fits
 
 pub join_bytes-comm : (agg : AggName) (arg : Scalar) (a b : List ℕ) → join_bytes agg arg a b ≡ join_bytes agg arg b a
-join_bytes-comm agg arg a b = ap (state_bytes arg) (join_comm (state_in agg arg a) (state_in agg arg b))
+join_bytes-comm agg arg a b = ap (state_bytes arg) (join-comm (state_in agg arg a) (state_in agg arg b))
 
 pub join_bytes-assoc : (agg : AggName) (arg : Scalar) (a b c : List ℕ) → FitsState agg arg (join (state_in agg arg a) (state_in agg arg b)) → FitsState agg arg (join (state_in agg arg b) (state_in agg arg c))
     → join_bytes agg arg (join_bytes agg arg a b) c ≡ join_bytes agg arg a (join_bytes agg arg b c)
 join_bytes-assoc agg arg a b c h k =
     ap (state_bytes arg)
     (ap (λ (s : AnyAgg). join s (state_in agg arg c)) (join_bytes-joined agg arg a b h)
-    ∙ join_assoc (state_in agg arg a) (state_in agg arg b) (state_in agg arg c)
+    ∙ join-assoc (state_in agg arg a) (state_in agg arg b) (state_in agg arg c)
     ∙ ap (join (state_in agg arg a)) (sym (join_bytes-joined agg arg b c k)))

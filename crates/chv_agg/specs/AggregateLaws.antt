@@ -1,5 +1,5 @@
 -- What aggregate functions keep to: docs/SQL.md, "Aggregate functions".
-use Rattle.std.specs.Prelude.{ℕ, ℤ, pos, ◌≡◌, ◌<◌, ◌^◌, ◌≤ℤ◌, ◌-◌, neg_ℤ, List, [], ◌∷◌, ◌++◌, map}
+use Rattle.std.specs.Prelude.{ℕ, ℤ, pos, ◌≡◌, ◌<◌, ◌^◌, ◌≤ℤ◌, ◌-◌, neg_ℤ, List, [], ◌∷◌, ◌++◌, length, map}
 use Rattle.std.specs.List.{All, fold}
 use Rattle.chv_types.specs.Fits.{IsOfScalar}
 use Rattle.chv_types.specs.Members.{Rises}
@@ -27,6 +27,18 @@ pub record AggregateLaws {State : Type 0} (Fits : Scalar → State → Type 0) (
   pub fits_unit : (arg : Scalar) → Fits arg unit
   pub fits_one : (arg : Scalar) (value : Value) → IsOfScalar arg value → Fits arg (one value)
   pub closed : (arg : Scalar) (a b : State) → Fits arg a → Fits arg b → Fits arg (join a b)
+
+-- bytes begin with one state of a kind at most, so what is spelled reads back, whatever follows it
+pub record SpellingLaws {State : Type 0} (Fits : Scalar → State → Type 0) (Counted : State → Type 0) (spelling : Scalar → State → List ℕ) : Type 0 where
+  pub one : (arg : Scalar) (a b : State) (x y : List ℕ) → Fits arg a → Counted a → Fits arg b → Counted b → spelling arg a ++ x ≡ spelling arg b ++ y → (a ≡ b) × (x ≡ y)
+
+-- a state is none that keeps its values
+abbrev pub keeps_none : {State : Type 0} → State → Type 0
+keeps_none state = Unit {0}
+
+-- a set has fewer than 2^64 values
+abbrev pub has_few : List Value → Type 0
+has_few values = length values < 2 ^ 64
 
 -- the state of values, one after the other
 abbrev pub state_from : {State : Type 0} → State → (Value → State) → (State → State → State) → List Value → State

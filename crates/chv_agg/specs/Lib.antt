@@ -6,6 +6,8 @@ pub mod Functions
 pub mod Lists
 pub mod Pairs
 pub mod Plain
+pub mod PlainLaws
+pub mod SpellingLaws
 pub mod StateBytes
 pub mod StateReading
 pub mod States

@@ -1,5 +1,5 @@
 -- Aggregate functions over plain lists: docs/SQL.md, "Aggregate functions".
-use Rattle.std.specs.Prelude.{ℕ, ℤ, pos, ◌+ℤ◌, ◌%◌, ◌^◌, Bool, true, false, List, [], ◌∷◌, length, Option, None, Some}
+use Rattle.std.specs.Prelude.{ℤ, pos, ◌+ℤ◌, ◌%◌, ◌^◌, Bool, true, false, List, [], ◌∷◌, length, Option, None, Some}
 use Rattle.std.specs.Option.{unwrap_or}
 use Rattle.chv_agg.specs.States.{either_by, higher, is_signed, lower, signed_of, unsigned_of}
 use Rattle.chv_types.specs.Members.{members}

@@ -1,7 +1,6 @@
 -- Plain values in bytes: docs/FORMATS.md, "Values".
-use Rattle.std.specs.Prelude.{ℕ, ℤ, List, [], ◌∷◌, ◌++◌, ◌+◌, ◌≤◌, length, take, drop, nat_le, Option, Some, None, Bool, true, false, if◌then◌else◌, pos}
-use Rattle.byteorder.specs.Endian.{little_number}
-use Rattle.chv_bytes.specs.Integers.{int_bytes, int_value, width_of}
+use Rattle.std.specs.Prelude.{ℕ, ℤ, List, [], ◌∷◌, ◌++◌, Option, Some, None, Bool, true, false}
+use Rattle.chv_bytes.specs.Integers.{int_bytes}
 use Rattle.chv_bytes.specs.Runs.{run_bytes}
 use Rattle.chv_bytes.specs.declared.integer.IntKind.{IntKind}
 use Rattle.chv_bytes.specs.declared.integer.IntKind.TheVariants.{U8, U16, U32, U64, I8, I16, I32, I64}

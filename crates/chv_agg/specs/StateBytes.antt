@@ -1,5 +1,5 @@
 -- States in bytes: docs/FORMATS.md, "States".
-use Rattle.std.specs.Prelude.{ℕ, zero, suc, Bool, true, false, ◌&&◌, nat_le, nat_lt, if◌then◌else◌, List, [], ◌∷◌, ◌++◌, length, take, drop, Option, None, Some, ◌≡◌}
+use Rattle.std.specs.Prelude.{ℕ, ℤ, zero, suc, Bool, true, false, ◌&&◌, nat_le, nat_lt, if◌then◌else◌, List, [], ◌∷◌, ◌++◌, length, take, drop, Option, None, Some, ◌≡◌}
 use Rattle.std.specs.Int.{w64, to_le_bytes}
 use Rattle.std.specs.Option.{option_map, option_and_then}
 use Rattle.std.specs.Ordering.{is_lt}
@@ -32,14 +32,25 @@ abbrev pub found_bytes : Scalar → Option Value → List ℕ
 found_bytes arg None = 0 ∷ []
 found_bytes arg (Some value) = 1 ∷ scalar_spelling arg value
 
+-- a number of 64 bits in bytes, over values of any kind: without sign, and with one
+abbrev pub unsigned_bytes : Scalar → ℕ → List ℕ
+unsigned_bytes arg n = to_le_bytes w64 n
+
+abbrev pub signed_bytes : Scalar → ℤ → List ℕ
+signed_bytes arg n = int_bytes I64 n
+
+-- how many values there are, and the values
+abbrev pub set_bytes : Scalar → List Value → List ℕ
+set_bytes arg values = to_le_bytes w64 (length values) ++ values_spelling arg values
+
 -- a state over values of a kind in bytes
 unfoldable pub state_bytes : Scalar → AnyAgg → List ℕ
-state_bytes arg (Count n) = to_le_bytes w64 n
-state_bytes arg (SumU n) = to_le_bytes w64 n
-state_bytes arg (SumI n) = int_bytes I64 n
+state_bytes arg (Count n) = unsigned_bytes arg n
+state_bytes arg (SumU n) = unsigned_bytes arg n
+state_bytes arg (SumI n) = signed_bytes arg n
 state_bytes arg (Least found) = found_bytes arg found
 state_bytes arg (Greatest found) = found_bytes arg found
-state_bytes arg (Uniq values) = to_le_bytes w64 (length values) ++ values_spelling arg values
+state_bytes arg (Uniq values) = set_bytes arg values
 
 -- bytes are those of a state of the function over values of the kind
 pub record AreState (agg : AggName) (arg : Scalar) (bytes : List ℕ) : Type 0 where

@@ -1,9 +1,8 @@
 -- States of aggregate functions: docs/SQL.md, "Aggregate functions".
-use Rattle.std.specs.Prelude.{ℕ, ℤ, pos, ◌≡◌, ◌+◌, ◌*◌, ◌+ℤ◌, ◌%◌, ◌^◌, ◌<◌, ◌≤ℤ◌, ◌-◌, neg_ℤ, Bool, true, false, if◌then◌else◌, nat_le, List, [], ◌∷◌, ◌++◌, length, map, Option, None, Some}
+use Rattle.std.specs.Prelude.{ℕ, ℤ, pos, ◌≡◌, ◌+◌, ◌+ℤ◌, ◌%◌, ◌^◌, ◌<◌, ◌≤ℤ◌, ◌-◌, neg_ℤ, Bool, true, false, if◌then◌else◌, nat_le, List, [], ◌∷◌, ◌++◌, length, map, Option, None, Some}
 use Rattle.std.specs.Int.{w64, int_wrap, cast_unsigned}
 use Rattle.std.specs.List.{All, fold}
 use Rattle.std.specs.Option.{unwrap_or}
-use Rattle.std.specs.declared.cmp.Ordering.{Ordering}
 use Rattle.chv_types.specs.Fits.{IsOfScalar}
 use Rattle.chv_types.specs.Members.{by_order, members, Rises}
 use Rattle.chv_types.specs.Order.{number, value_cmp}

@@ -1,7 +1,8 @@
 // Aggregate functions.
-ghost use Rattle.std.specs.Prelude.{◌≡◌, List, IfOk, OnOk, OnErr};
+ghost use Rattle.std.specs.Prelude.{◌≡◌, ◌≢◌, ◌++◌, ℕ, List, drop, IfOk, IfSome, IsNone, OnOk, OnErr};
 ghost use Rattle.std.specs.List.{All};
-ghost use Rattle.chv_agg.specs.AggregateLaws.{AggregateLaws, state_from};
+ghost use Rattle.chv_agg.specs.AggregateLaws.{AggregateLaws, SpellingLaws, state_from};
+ghost use Rattle.chv_bytes.specs.Places.{StandsAt};
 ghost use Rattle.chv_types.specs.Fits.{IsOfScalar};
 ghost use Rattle.chv_types.specs.Values.{seen_value};
 ghost use Rattle.chv_types.specs.declared.kind.Scalar.{Scalar as SomeScalar};
@@ -15,8 +16,19 @@ pub trait Aggregate {
     /// What stands for a list of values.
     type State: Drop;
 
+    /// The number of the function.
+    const TAG: u8;
+
+    ghost TAG: { ℕ };
+
     // A state is one over values of the kind.
     ghost fits: { SomeScalar → Self.State → Type 0 };
+
+    // A state has fewer than 2^64 values, where it keeps values.
+    ghost counted: { Self.State → Type 0 };
+
+    // A state over values of the kind in bytes.
+    ghost spelling: { SomeScalar → Self.State → List ℕ };
 
     // The state of no values.
     ghost none: { Self.State };
@@ -51,7 +63,26 @@ pub trait Aggregate {
     fn finish(alloc: Global, state: &Self::State, arg: Scalar) -> Result<Value, AllocError>
         ensures { IfOk result (λ value. value ≡ value_of arg state.now) };
 
+    /// Puts a state over values of a kind behind `out`.
+    fn spell(state: &Self::State, arg: Scalar, out: &mut Vec<u8>) -> Result<(), AllocError>
+        requires fits { fits arg state.now }
+        ensures { OnOk result (out.new.items ≡ out.old.items ++ spelling arg state.now) };
+
+    /// The state over values of a kind whose bytes begin at `at`, and the place behind it. None where no state's do.
+    fn read(
+        alloc: Global,
+        bytes: &[u8],
+        at: usize,
+        arg: Scalar,
+    ) -> Result<Option<(Self::State, usize)>, AllocError>
+        ensures fits { IfOk result (λ read. IfSome read (λ r. fits arg r.0)) }
+        ensures counted { IfOk result (λ read. IfSome read (λ r. counted r.0)) }
+        ensures found { IfOk result (λ read. IfSome read (λ r. StandsAt (spelling arg r.0) bytes.now at r.1)) }
+        ensures none { IfOk result (λ read. IsNone read → (state : Self.State) (rest : List ℕ) → fits arg state → counted state → drop at bytes.now ≢ spelling arg state ++ rest) };
+
     ghost laws: { AggregateLaws fits none one join };
+
+    ghost spelled: { SpellingLaws fits counted spelling };
 
     ghost valued: { (arg : SomeScalar) (values : List SomeValue) → All (IsOfScalar arg) values → value_of arg (state_from none one join values) ≡ result_of arg values };
 }

@@ -1,5 +1,6 @@
 // Counts.
 use crate::Aggregate;
+use crate::reading::read_number;
 use chv_types::{Scalar, Seen, Value};
 use std::alloc::{AllocError, Global};
 
@@ -8,6 +9,9 @@ use std::alloc::{AllocError, Global};
 pub struct Count;
 
 impl Aggregate for Count {
+    ghost use Rattle.chv_agg.specs.AggregateLaws.{keeps_none};
+    ghost use Rattle.chv_agg.specs.StateBytes.{agg_number, unsigned_bytes};
+    ghost use Rattle.chv_agg.specs.SpellingLaws.{unsigned_spelling};
     ghost use Rattle.std.proofs.Common.{ap};
     ghost use Rattle.chv_agg.specs.CountLaws.{count_laws, count_state};
     ghost use Rattle.chv_agg.specs.Functions.{count_one, unsigned_fits, unsigned_join, unsigned_value};
@@ -16,7 +20,15 @@ impl Aggregate for Count {
 
     type State = u64;
 
+    const TAG: u8 = 0;
+
+    ghost TAG = { agg_number agg.Count };
+
     ghost fits = { unsigned_fits };
+
+    ghost counted = { keeps_none };
+
+    ghost spelling = { unsigned_bytes };
 
     ghost none = { 0 };
 
@@ -29,6 +41,8 @@ impl Aggregate for Count {
     ghost result_of = { aggregate_of agg.Count };
 
     ghost laws = { count_laws };
+
+    ghost spelled = { unsigned_spelling };
 
     ghost valued = { λ arg values of. ap (unsigned_value arg) (count_state values) };
 
@@ -48,5 +62,18 @@ impl Aggregate for Count {
 
     fn finish(_alloc: Global, state: &u64, _arg: Scalar) -> Result<Value, AllocError> {
         Ok(Value::Whole(i128::from(*state)))
+    }
+
+    fn spell(state: &u64, _arg: Scalar, out: &mut Vec<u8>) -> Result<(), AllocError> {
+        out.extend_from_slice(&state.to_le_bytes())
+    }
+
+    fn read(
+        _alloc: Global,
+        bytes: &[u8],
+        at: usize,
+        _arg: Scalar,
+    ) -> Result<Option<(u64, usize)>, AllocError> {
+        Ok(read_number(bytes, at))
     }
 }

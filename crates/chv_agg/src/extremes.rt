@@ -5,6 +5,8 @@ ghost use Rattle.chv_agg.specs.States.{either_by, higher, lower};
 ghost use Rattle.chv_types.specs.Values.{plain_default, seen_value};
 
 use crate::Aggregate;
+use crate::reading::read_found;
+use crate::spelling::put_found;
 use chv_types::{Kind, Scalar, Seen, Value, compare_seen, default_value};
 use std::alloc::{AllocError, Global};
 
@@ -110,6 +112,9 @@ pub(crate) fn copied_found(
 pub struct Least;
 
 impl Aggregate for Least {
+    ghost use Rattle.chv_agg.specs.AggregateLaws.{keeps_none};
+    ghost use Rattle.chv_agg.specs.StateBytes.{agg_number, found_bytes};
+    ghost use Rattle.chv_agg.specs.SpellingLaws.{found_spelling};
     ghost use Rattle.std.proofs.Common.{ap};
     ghost use Rattle.std.specs.declared.option.Option.TheVariants.{None};
     ghost use Rattle.chv_agg.specs.ExtremeLaws.{least_laws, least_state};
@@ -120,7 +125,15 @@ impl Aggregate for Least {
 
     type State = Option<Value>;
 
+    const TAG: u8 = 2;
+
+    ghost TAG = { agg_number agg.Min };
+
     ghost fits = { FitsFound };
+
+    ghost counted = { keeps_none };
+
+    ghost spelling = { found_bytes };
 
     ghost none = { None };
 
@@ -133,6 +146,8 @@ impl Aggregate for Least {
     ghost result_of = { aggregate_of agg.Min };
 
     ghost laws = { least_laws };
+
+    ghost spelled = { found_spelling };
 
     ghost valued = { λ arg values of. ap (found_value arg) (least_state values) };
 
@@ -155,6 +170,19 @@ impl Aggregate for Least {
     fn finish(alloc: Global, state: &Option<Value>, arg: Scalar) -> Result<Value, AllocError> {
         found_or_default(alloc, state, arg)
     }
+
+    fn spell(state: &Option<Value>, arg: Scalar, out: &mut Vec<u8>) -> Result<(), AllocError> {
+        put_found(state, arg, out)
+    }
+
+    fn read(
+        alloc: Global,
+        bytes: &[u8],
+        at: usize,
+        arg: Scalar,
+    ) -> Result<Option<(Option<Value>, usize)>, AllocError> {
+        read_found(alloc, bytes, at, arg)
+    }
 }
 
 /// The greatest value.
@@ -162,6 +190,9 @@ impl Aggregate for Least {
 pub struct Greatest;
 
 impl Aggregate for Greatest {
+    ghost use Rattle.chv_agg.specs.AggregateLaws.{keeps_none};
+    ghost use Rattle.chv_agg.specs.StateBytes.{agg_number, found_bytes};
+    ghost use Rattle.chv_agg.specs.SpellingLaws.{found_spelling};
     ghost use Rattle.std.proofs.Common.{ap};
     ghost use Rattle.std.specs.declared.option.Option.TheVariants.{None};
     ghost use Rattle.chv_agg.specs.ExtremeLaws.{greatest_laws, greatest_state};
@@ -172,7 +203,15 @@ impl Aggregate for Greatest {
 
     type State = Option<Value>;
 
+    const TAG: u8 = 3;
+
+    ghost TAG = { agg_number agg.Max };
+
     ghost fits = { FitsFound };
+
+    ghost counted = { keeps_none };
+
+    ghost spelling = { found_bytes };
 
     ghost none = { None };
 
@@ -185,6 +224,8 @@ impl Aggregate for Greatest {
     ghost result_of = { aggregate_of agg.Max };
 
     ghost laws = { greatest_laws };
+
+    ghost spelled = { found_spelling };
 
     ghost valued = { λ arg values of. ap (found_value arg) (greatest_state values) };
 
@@ -206,5 +247,18 @@ impl Aggregate for Greatest {
 
     fn finish(alloc: Global, state: &Option<Value>, arg: Scalar) -> Result<Value, AllocError> {
         found_or_default(alloc, state, arg)
+    }
+
+    fn spell(state: &Option<Value>, arg: Scalar, out: &mut Vec<u8>) -> Result<(), AllocError> {
+        put_found(state, arg, out)
+    }
+
+    fn read(
+        alloc: Global,
+        bytes: &[u8],
+        at: usize,
+        arg: Scalar,
+    ) -> Result<Option<(Option<Value>, usize)>, AllocError> {
+        read_found(alloc, bytes, at, arg)
     }
 }

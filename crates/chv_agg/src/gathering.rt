@@ -1,6 +1,6 @@
 // Different values that are gathered as they come.
 ghost use Rattle.std.specs.Prelude.{◌≡◌, ◌++◌, ◌∷◌, [], IfOk, IfErr, OnOk, List};
-ghost use Rattle.chv_agg.specs.States.{join, one_like, unit_of};
+ghost use Rattle.chv_agg.specs.States.{join, one_like, unit_of, value_of};
 ghost use Rattle.chv_agg.specs.Tallies.{worked};
 ghost use Rattle.chv_agg.specs.declared.any_agg.AnyAgg.{AnyAgg as SomeState};
 ghost use Rattle.chv_types.specs.Members.{members};
@@ -8,20 +8,28 @@ ghost use Rattle.chv_types.specs.Order.{value_cmp};
 ghost use Rattle.chv_types.specs.Values.{seen_value};
 ghost use Rattle.chv_types.specs.declared.value.Value.{Value as SomeValue};
 
+use crate::count::Count;
 use crate::states::add_seen;
+use crate::sums::{SignedSum, UnsignedSum};
 use crate::uniq::{move_values, settle};
-use crate::{AnyAgg, ValueSet, any_merge, any_unit};
+use crate::{Aggregate, AnyAgg, ValueSet, any_finish, any_merge, any_unit};
 use chv_types::{AggName, Scalar, Seen, Value};
 use sqlite_items::Items;
 use std::alloc::{AllocError, Global};
 
-/// What a state is while it is worked on.
+/// What a state is while it is worked on. Counts and sums take little room, since there is one for each group.
 #[derive(Debug, Drop)]
 pub(crate) enum Work {
+    /// How many values there were, modulo 2^64.
+    Count(u64),
+    /// The sum of numbers without sign, modulo 2^64.
+    SumU(u64),
+    /// The sum of numbers with sign, modulo 2^64.
+    SumI(i64),
     /// Values of which the different ones are meant.
     Gathered(Vec<Value>),
-    /// A state of which there is no more to know.
-    Joined(AnyAgg),
+    /// Another state.
+    Joined(Box<AnyAgg>),
 }
 
 /// No values yet.
@@ -29,19 +37,35 @@ pub(crate) fn begin(alloc: Global, agg: AggName, arg: Scalar) -> Result<Work, Al
     ensures { IfOk result (λ work. worked work ≡ unit_of agg arg) }
 {
     match agg {
+        AggName::Count => Ok(Work::Count(Count::unit(alloc))),
         AggName::UniqExact => Ok(Work::Gathered(Vec::new(alloc))),
-        _ => Ok(Work::Joined(any_unit(alloc, agg, arg)?)),
+        _ => work_on(alloc, any_unit(alloc, agg, arg)?),
+    }
+}
+
+// Goes on with a state.
+fn work_on(alloc: Global, state: AnyAgg) -> Result<Work, AllocError>
+    ensures { IfOk result (λ work. worked work ≡ state) }
+{
+    match state {
+        AnyAgg::Count(n) => Ok(Work::Count(n)),
+        AnyAgg::SumU(n) => Ok(Work::SumU(n)),
+        AnyAgg::SumI(n) => Ok(Work::SumI(n)),
+        other => Ok(Work::Joined(Box::new(alloc, other)?)),
     }
 }
 
 /// Takes one value more.
-#[tactic(auto, using(crate::proofs::TallyLemmas::gathered_laws))]
+#[tactic(auto, unfolding(crate::specs::States::join), using(crate::proofs::TallyLemmas::gathered_laws))]
 pub(crate) fn take_value(alloc: Global, work: &mut Work, input: Seen<'_>) -> Result<(), AllocError>
     ensures { OnOk result (worked work.new ≡ join (worked work.old) (one_like (worked work.old) (seen_value input.entry))) }
 {
     match work {
+        Work::Count(n) => Count::add(alloc, n, input),
+        Work::SumU(n) => UnsignedSum::add(alloc, n, input),
+        Work::SumI(n) => SignedSum::add(alloc, n, input),
         Work::Gathered(values) => gather(values, input.to_value(alloc)?),
-        Work::Joined(state) => add_seen(alloc, state, input),
+        Work::Joined(state) => add_seen(alloc, &mut **state, input),
     }
 }
 
@@ -90,15 +114,35 @@ pub(crate) fn take_state(alloc: Global, work: &mut Work, other: AnyAgg) -> Resul
     ensures { OnOk result (worked work.new ≡ join (worked work.old) other) }
 {
     match work {
+        Work::Count(n) => {
+            *work = joined(alloc, AnyAgg::Count(*n), &other)?;
+            Ok(())
+        }
+        Work::SumU(n) => {
+            *work = joined(alloc, AnyAgg::SumU(*n), &other)?;
+            Ok(())
+        }
+        Work::SumI(n) => {
+            *work = joined(alloc, AnyAgg::SumI(*n), &other)?;
+            Ok(())
+        }
         Work::Gathered(values) => match set_of(other) {
             Ok(set) => gather_set(values, set),
             Err(lower) => {
-                *work = Work::Joined(lower);
+                *work = work_on(alloc, lower)?;
                 Ok(())
             }
         },
-        Work::Joined(state) => any_merge(alloc, state, &other),
+        Work::Joined(state) => any_merge(alloc, &mut **state, &other),
     }
+}
+
+// Two states as one, to go on with.
+fn joined(alloc: Global, mut state: AnyAgg, other: &AnyAgg) -> Result<Work, AllocError>
+    ensures { IfOk result (λ work. worked work ≡ join state other.now) }
+{
+    any_merge(alloc, &mut state, other)?;
+    work_on(alloc, state)
 }
 
 // The set of a state, or the state of another function, which stands before all sets.
@@ -113,15 +157,30 @@ fn set_of(state: AnyAgg) -> Result<ValueSet, AnyAgg>
     }
 }
 
+/// The value of the state that was worked on, over values of a kind.
+pub(crate) fn value(alloc: Global, work: Work, arg: Scalar) -> Result<Value, AllocError>
+    ensures { IfOk result (λ value. value ≡ value_of arg (worked work)) }
+{
+    match work {
+        Work::Count(n) => Count::finish(alloc, &n, arg),
+        Work::SumU(n) => UnsignedSum::finish(alloc, &n, arg),
+        Work::SumI(n) => SignedSum::finish(alloc, &n, arg),
+        other => any_finish(alloc, &end(other), arg),
+    }
+}
+
 /// The state that was worked on. It takes no memory.
 pub(crate) fn end(work: Work) -> AnyAgg
     ensures { result ≡ worked work }
 {
     match work {
+        Work::Count(n) => AnyAgg::Count(n),
+        Work::SumU(n) => AnyAgg::SumU(n),
+        Work::SumI(n) => AnyAgg::SumI(n),
         Work::Gathered(mut values) => {
             settle(&mut values);
             AnyAgg::Uniq(Items::from_vec(values))
         }
-        Work::Joined(state) => state,
+        Work::Joined(state) => Box::into_inner(state),
     }
 }

@@ -35,9 +35,11 @@ pub fn law_state_of_list()
     ensures bag { (agg : SomeAgg) (arg : SomeScalar) (xs ys : List SomeValue) → IsPermutation xs ys → state_of agg arg xs ≡ state_of agg arg ys }
 {}
 
-/// A state of any function that values were added to and states were merged into stands for the list of all these values.
+/// A state of any function that values were added to and states were merged into stands for the list of all these values, and
+/// goes by what the list has, not by its order.
 pub fn law_mixtures<A: Aggregate>()
-    ensures { (arg : SomeScalar) (mixture : Mixture) → All (IsOfScalar arg) (values_of mixture) → mixed A.none A.one A.join mixture ≡ state_from A.none A.one A.join (values_of mixture) }
+    ensures bag { (xs ys : List SomeValue) → IsPermutation xs ys → state_from A.none A.one A.join xs ≡ state_from A.none A.one A.join ys }
+    ensures mixed { (arg : SomeScalar) (mixture : Mixture) → All (IsOfScalar arg) (values_of mixture) → mixed A.none A.one A.join mixture ≡ state_from A.none A.one A.join (values_of mixture) }
 {}
 
 /// So does a state that is one of all functions.

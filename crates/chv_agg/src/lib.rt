@@ -5,6 +5,7 @@ mod aggregate;
 mod any_agg;
 mod byte_laws;
 mod count;
+mod ending;
 mod extremes;
 mod gathering;
 mod laws;
@@ -24,6 +25,7 @@ pub use byte_laws::{
     law_join_bytes, law_state_front, law_state_in, law_state_in_fits, law_state_reads_back,
 };
 pub use count::Count;
+pub use ending::state_end;
 pub use extremes::{Greatest, Least};
 pub use laws::{
     law_join_order, law_join_states, law_mixed_states, law_mixtures, law_state_of_list,

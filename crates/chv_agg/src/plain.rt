@@ -5,10 +5,11 @@ ghost use Rattle.chv_bytes.specs.Places.{StandsAt};
 ghost use Rattle.chv_bytes.specs.Runs.{run_bytes};
 ghost use Rattle.chv_types.specs.Fits.{IsOfScalar};
 ghost use Rattle.chv_types.specs.Kinds.{range_of, LiesIn};
+ghost use Rattle.chv_types.specs.Values.{seen_value};
 ghost use Rattle.chv_types.specs.declared.value.Value.{Value as SomeValue};
 
 use chv_bytes::{IntKind, put_int, put_run, read_int, read_run};
-use chv_types::{Bytes, MAX_TEXT, Scalar, Value};
+use chv_types::{MAX_TEXT, Scalar, Seen, Value};
 use std::alloc::{AllocError, Global};
 
 /// The code of a kind of plain values.
@@ -84,35 +85,52 @@ pub fn read_scalar(
     ensures found { IfOk result (λ read. IfSome read (λ r. StandsAt (scalar_spelling scalar r.0) bytes.now at r.1)) }
     ensures none { IfOk result (λ read. IsNone read → (value : SomeValue) (rest : List ℕ) → IsOfScalar scalar value → drop at bytes.now ≢ scalar_spelling scalar value ++ rest) }
 {
+    match seen_scalar(scalar, bytes, at) {
+        Some((seen, behind)) => Ok(Some((seen.to_value(alloc)?, behind))),
+        None => Ok(None),
+    }
+}
+
+/// The same value where it stands.
+pub(crate) fn seen_scalar(scalar: Scalar, bytes: &[u8], at: usize) -> Option<(Seen<'_>, usize)>
+    ensures kind { IfSome result (λ r. IsOfScalar scalar (seen_value r.0)) }
+    ensures found { IfSome result (λ r. StandsAt (scalar_spelling scalar (seen_value r.0)) bytes.now at r.1) }
+    ensures none { IsNone result → (value : SomeValue) (rest : List ℕ) → IsOfScalar scalar value → drop at bytes.now ≢ scalar_spelling scalar value ++ rest }
+{
     match scalar {
-        Scalar::Bool => Ok(read_truth(bytes, at)),
-        Scalar::Text => read_text(alloc, bytes, at),
-        Scalar::UInt8 => Ok(read_whole(Scalar::UInt8, IntKind::U8, bytes, at)),
-        Scalar::UInt16 => Ok(read_whole(Scalar::UInt16, IntKind::U16, bytes, at)),
-        Scalar::UInt32 => Ok(read_whole(Scalar::UInt32, IntKind::U32, bytes, at)),
-        Scalar::UInt64 => Ok(read_whole(Scalar::UInt64, IntKind::U64, bytes, at)),
-        Scalar::Int8 => Ok(read_whole(Scalar::Int8, IntKind::I8, bytes, at)),
-        Scalar::Int16 => Ok(read_whole(Scalar::Int16, IntKind::I16, bytes, at)),
-        Scalar::Int32 => Ok(read_whole(Scalar::Int32, IntKind::I32, bytes, at)),
-        Scalar::Int64 => Ok(read_whole(Scalar::Int64, IntKind::I64, bytes, at)),
+        Scalar::Bool => seen_truth(bytes, at),
+        Scalar::Text => seen_text(bytes, at),
+        Scalar::UInt8 => seen_whole(Scalar::UInt8, IntKind::U8, bytes, at),
+        Scalar::UInt16 => seen_whole(Scalar::UInt16, IntKind::U16, bytes, at),
+        Scalar::UInt32 => seen_whole(Scalar::UInt32, IntKind::U32, bytes, at),
+        Scalar::UInt64 => seen_whole(Scalar::UInt64, IntKind::U64, bytes, at),
+        Scalar::Int8 => seen_whole(Scalar::Int8, IntKind::I8, bytes, at),
+        Scalar::Int16 => seen_whole(Scalar::Int16, IntKind::I16, bytes, at),
+        Scalar::Int32 => seen_whole(Scalar::Int32, IntKind::I32, bytes, at),
+        Scalar::Int64 => seen_whole(Scalar::Int64, IntKind::I64, bytes, at),
     }
 }
 
 // The integer whose spelling begins at a place, and the place behind it.
-fn read_whole(scalar: Scalar, integers: IntKind, bytes: &[u8], at: usize) -> Option<(Value, usize)>
+fn seen_whole(
+    scalar: Scalar,
+    integers: IntKind,
+    bytes: &[u8],
+    at: usize,
+) -> Option<(Seen<'_>, usize)>
     requires integers { integers_of scalar ≡ Some integers }
-    ensures kind { IfSome result (λ r. IsOfScalar scalar r.0) }
-    ensures found { IfSome result (λ r. StandsAt (scalar_spelling scalar r.0) bytes.now at r.1) }
+    ensures kind { IfSome result (λ r. IsOfScalar scalar (seen_value r.0)) }
+    ensures found { IfSome result (λ r. StandsAt (scalar_spelling scalar (seen_value r.0)) bytes.now at r.1) }
     ensures none { IsNone result → (value : SomeValue) (rest : List ℕ) → IsOfScalar scalar value → drop at bytes.now ≢ scalar_spelling scalar value ++ rest }
 {
     let (n, behind) = read_int(bytes, at, integers)?;
-    Some((Value::Whole(n), behind))
+    Some((Seen::Whole(n), behind))
 }
 
 // The truth whose spelling begins at a place, and the place behind it.
-fn read_truth(bytes: &[u8], at: usize) -> Option<(Value, usize)>
-    ensures kind { IfSome result (λ r. IsOfScalar Scalar.Bool r.0) }
-    ensures found { IfSome result (λ r. StandsAt (scalar_spelling Scalar.Bool r.0) bytes.now at r.1) }
+fn seen_truth(bytes: &[u8], at: usize) -> Option<(Seen<'_>, usize)>
+    ensures kind { IfSome result (λ r. IsOfScalar Scalar.Bool (seen_value r.0)) }
+    ensures found { IfSome result (λ r. StandsAt (scalar_spelling Scalar.Bool (seen_value r.0)) bytes.now at r.1) }
     ensures none { IsNone result → (value : SomeValue) (rest : List ℕ) → IsOfScalar Scalar.Bool value → drop at bytes.now ≢ scalar_spelling Scalar.Bool value ++ rest }
 {
     if at >= bytes.len() {
@@ -120,30 +138,25 @@ fn read_truth(bytes: &[u8], at: usize) -> Option<(Value, usize)>
     }
     let byte = bytes[at];
     if byte == 0 {
-        return Some((Value::Truth(false), at + 1));
+        return Some((Seen::Truth(false), at + 1));
     }
     if byte == 1 {
-        return Some((Value::Truth(true), at + 1));
+        return Some((Seen::Truth(true), at + 1));
     }
     None
 }
 
 // The text whose spelling begins at a place, and the place behind it.
-fn read_text(alloc: Global, bytes: &[u8], at: usize) -> Result<Option<(Value, usize)>, AllocError>
-    ensures kind { IfOk result (λ read. IfSome read (λ r. IsOfScalar Scalar.Text r.0)) }
-    ensures found { IfOk result (λ read. IfSome read (λ r. StandsAt (scalar_spelling Scalar.Text r.0) bytes.now at r.1)) }
-    ensures none { IfOk result (λ read. IsNone read → (value : SomeValue) (rest : List ℕ) → IsOfScalar Scalar.Text value → drop at bytes.now ≢ scalar_spelling Scalar.Text value ++ rest) }
+fn seen_text(bytes: &[u8], at: usize) -> Option<(Seen<'_>, usize)>
+    ensures kind { IfSome result (λ r. IsOfScalar Scalar.Text (seen_value r.0)) }
+    ensures found { IfSome result (λ r. StandsAt (scalar_spelling Scalar.Text (seen_value r.0)) bytes.now at r.1) }
+    ensures none { IsNone result → (value : SomeValue) (rest : List ℕ) → IsOfScalar Scalar.Text value → drop at bytes.now ≢ scalar_spelling Scalar.Text value ++ rest }
 {
-    match read_run(bytes, at) {
-        Some((start, end)) => {
-            if end - start > MAX_TEXT {
-                return Ok(None);
-            }
-            let text = Bytes::from_slice(alloc, &bytes[start..end])?;
-            Ok(Some((Value::Text(text), end)))
-        }
-        None => Ok(None),
+    let (start, end) = read_run(bytes, at)?;
+    if end - start > MAX_TEXT {
+        return None;
     }
+    Some((Seen::Text(&bytes[start..end]), end))
 }
 
 /// How many canonical bytes a plain value has: 4 and 1,048,576 at most.

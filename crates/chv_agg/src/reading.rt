@@ -1,9 +1,10 @@
 // States out of bytes.
-ghost use Rattle.std.specs.Prelude.{◌≡◌, ◌≢◌, ◌≤◌, ◌<◌, ◌+◌, ◌++◌, ℕ, List, Option, true, length, drop, IfOk, IfSome, IsNone};
+ghost use Rattle.std.specs.Prelude.{◌≡◌, ◌≢◌, ◌≤◌, ◌<◌, ◌+◌, ◌++◌, ℕ, List, Option, true, false, length, drop, IfOk, IfSome, IsNone};
 ghost use Rattle.std.specs.Int.{to_le_bytes, w64};
 ghost use Rattle.std.specs.List.{All};
+ghost use Rattle.chv_agg.specs.AggregateLaws.{IsSet, has_few};
 ghost use Rattle.chv_agg.specs.Plain.{scalar_spelling, values_spelling};
-ghost use Rattle.chv_agg.specs.StateBytes.{found_bytes, state_bytes};
+ghost use Rattle.chv_agg.specs.StateBytes.{found_bytes, set_bytes, state_bytes};
 ghost use Rattle.chv_agg.specs.StateReading.{follows, Gains, RiseAt};
 ghost use Rattle.chv_agg.specs.States.{FitsFound, FitsState, is_signed};
 ghost use Rattle.chv_agg.specs.declared.any_agg.AnyAgg.{AnyAgg as SomeState};
@@ -13,8 +14,12 @@ ghost use Rattle.chv_types.specs.Members.{Rises};
 ghost use Rattle.chv_types.specs.Order.{value_cmp};
 ghost use Rattle.chv_types.specs.declared.value.Value.{Value as SomeValue};
 
-use crate::{AnyAgg, ValueSet, read_scalar};
-use chv_bytes::{IntKind, read_fixed, read_int, unfix};
+use crate::count::Count;
+use crate::extremes::{Greatest, Least};
+use crate::sums::{SignedSum, UnsignedSum};
+use crate::uniq::Distinct;
+use crate::{Aggregate, AnyAgg, ValueSet, read_scalar};
+use chv_bytes::{read_fixed, unfix};
 use chv_types::{AggName, Scalar, Value, compare};
 use sqlite_items::Items;
 use std::alloc::{AllocError, Global};
@@ -34,32 +39,48 @@ pub fn any_read(
     ensures none { IfOk result (λ read. IsNone read → (state : SomeState) (rest : List ℕ) → FitsState agg arg state → drop at bytes.now ≢ state_bytes arg state ++ rest) }
 {
     match agg {
-        AggName::Count => Ok(read_count(bytes, at)),
-        AggName::Sum => Ok(read_sum(bytes, at, arg)),
+        AggName::Count => read_count(alloc, bytes, at, arg),
+        AggName::Sum => read_sum(alloc, bytes, at, arg),
         AggName::Min => read_least(alloc, bytes, at, arg),
         AggName::Max => read_greatest(alloc, bytes, at, arg),
         AggName::UniqExact => read_uniq(alloc, bytes, at, arg),
     }
 }
 
-// The number of 8 bytes at a place, and the place behind it.
-fn read_number(bytes: &[u8], at: usize) -> Option<(u64, usize)>
-    ensures found { IfSome result (λ r. StandsAt (to_le_bytes w64 r.0) bytes.now at r.1) }
-    ensures none { IsNone result → length bytes.now < at + 8 }
-{
-    let (number, behind) = read_fixed::<8>(bytes, at)?;
-    Some((unfix(&number), behind))
-}
-
 // The count at a place, and the place behind it.
 #[tactic(auto, unfolding(crate::specs::StateBytes::state_bytes))]
-fn read_count(bytes: &[u8], at: usize) -> Option<(AnyAgg, usize)>
-    ensures fits { (arg : Scalar) → IfSome result (λ r. FitsState AggName.Count arg r.0) }
-    ensures found { (arg : Scalar) → IfSome result (λ r. StandsAt (state_bytes arg r.0) bytes.now at r.1) }
-    ensures none { IsNone result → (arg : Scalar) (state : SomeState) (rest : List ℕ) → FitsState AggName.Count arg state → drop at bytes.now ≢ state_bytes arg state ++ rest }
+fn read_count(
+    alloc: Global,
+    bytes: &[u8],
+    at: usize,
+    arg: Scalar,
+) -> Result<Option<(AnyAgg, usize)>, AllocError>
+    ensures fits { IfOk result (λ read. IfSome read (λ r. FitsState AggName.Count arg r.0)) }
+    ensures found { IfOk result (λ read. IfSome read (λ r. StandsAt (state_bytes arg r.0) bytes.now at r.1)) }
+    ensures none { IfOk result (λ read. IsNone read → (state : SomeState) (rest : List ℕ) → FitsState AggName.Count arg state → drop at bytes.now ≢ state_bytes arg state ++ rest) }
 {
-    let (n, behind) = read_number(bytes, at)?;
-    Some((AnyAgg::Count(n), behind))
+    match Count::read(alloc, bytes, at, arg)? {
+        Some((n, behind)) => Ok(Some((AnyAgg::Count(n), behind))),
+        None => Ok(None),
+    }
+}
+
+// The sum at a place, and the place behind it.
+fn read_sum(
+    alloc: Global,
+    bytes: &[u8],
+    at: usize,
+    arg: Scalar,
+) -> Result<Option<(AnyAgg, usize)>, AllocError>
+    ensures fits { IfOk result (λ read. IfSome read (λ r. FitsState AggName.Sum arg r.0)) }
+    ensures found { IfOk result (λ read. IfSome read (λ r. StandsAt (state_bytes arg r.0) bytes.now at r.1)) }
+    ensures none { IfOk result (λ read. IsNone read → (state : SomeState) (rest : List ℕ) → FitsState AggName.Sum arg state → drop at bytes.now ≢ state_bytes arg state ++ rest) }
+{
+    if is_signed(arg) {
+        read_signed(alloc, bytes, at, arg)
+    } else {
+        read_unsigned(alloc, bytes, at, arg)
+    }
 }
 
 // Whether a kind has integers below zero.
@@ -72,19 +93,42 @@ fn is_signed(arg: Scalar) -> bool
     }
 }
 
-// The sum at a place, and the place behind it.
+// The sum of numbers with sign at a place, and the place behind it.
 #[tactic(auto, unfolding(crate::specs::StateBytes::state_bytes))]
-fn read_sum(bytes: &[u8], at: usize, arg: Scalar) -> Option<(AnyAgg, usize)>
-    ensures fits { IfSome result (λ r. FitsState AggName.Sum arg r.0) }
-    ensures found { IfSome result (λ r. StandsAt (state_bytes arg r.0) bytes.now at r.1) }
-    ensures none { IsNone result → (state : SomeState) (rest : List ℕ) → FitsState AggName.Sum arg state → drop at bytes.now ≢ state_bytes arg state ++ rest }
+fn read_signed(
+    alloc: Global,
+    bytes: &[u8],
+    at: usize,
+    arg: Scalar,
+) -> Result<Option<(AnyAgg, usize)>, AllocError>
+    requires signed { is_signed arg ≡ true }
+    ensures fits { IfOk result (λ read. IfSome read (λ r. FitsState AggName.Sum arg r.0)) }
+    ensures found { IfOk result (λ read. IfSome read (λ r. StandsAt (state_bytes arg r.0) bytes.now at r.1)) }
+    ensures none { IfOk result (λ read. IsNone read → (state : SomeState) (rest : List ℕ) → FitsState AggName.Sum arg state → drop at bytes.now ≢ state_bytes arg state ++ rest) }
 {
-    if is_signed(arg) {
-        let (sum, behind) = read_int(bytes, at, IntKind::I64)?;
-        return Some((AnyAgg::SumI(sum as i64), behind));
+    match SignedSum::read(alloc, bytes, at, arg)? {
+        Some((sum, behind)) => Ok(Some((AnyAgg::SumI(sum), behind))),
+        None => Ok(None),
     }
-    let (sum, behind) = read_number(bytes, at)?;
-    Some((AnyAgg::SumU(sum), behind))
+}
+
+// The sum of numbers without sign at a place, and the place behind it.
+#[tactic(auto, unfolding(crate::specs::StateBytes::state_bytes))]
+fn read_unsigned(
+    alloc: Global,
+    bytes: &[u8],
+    at: usize,
+    arg: Scalar,
+) -> Result<Option<(AnyAgg, usize)>, AllocError>
+    requires unsigned { is_signed arg ≡ false }
+    ensures fits { IfOk result (λ read. IfSome read (λ r. FitsState AggName.Sum arg r.0)) }
+    ensures found { IfOk result (λ read. IfSome read (λ r. StandsAt (state_bytes arg r.0) bytes.now at r.1)) }
+    ensures none { IfOk result (λ read. IsNone read → (state : SomeState) (rest : List ℕ) → FitsState AggName.Sum arg state → drop at bytes.now ≢ state_bytes arg state ++ rest) }
+{
+    match UnsignedSum::read(alloc, bytes, at, arg)? {
+        Some((sum, behind)) => Ok(Some((AnyAgg::SumU(sum), behind))),
+        None => Ok(None),
+    }
 }
 
 // The least value at a place, and the place behind it.
@@ -99,7 +143,7 @@ fn read_least(
     ensures found { IfOk result (λ read. IfSome read (λ r. StandsAt (state_bytes arg r.0) bytes.now at r.1)) }
     ensures none { IfOk result (λ read. IsNone read → (state : SomeState) (rest : List ℕ) → FitsState AggName.Min arg state → drop at bytes.now ≢ state_bytes arg state ++ rest) }
 {
-    match read_found(alloc, bytes, at, arg)? {
+    match Least::read(alloc, bytes, at, arg)? {
         Some((found, behind)) => Ok(Some((AnyAgg::Least(found), behind))),
         None => Ok(None),
     }
@@ -117,14 +161,41 @@ fn read_greatest(
     ensures found { IfOk result (λ read. IfSome read (λ r. StandsAt (state_bytes arg r.0) bytes.now at r.1)) }
     ensures none { IfOk result (λ read. IsNone read → (state : SomeState) (rest : List ℕ) → FitsState AggName.Max arg state → drop at bytes.now ≢ state_bytes arg state ++ rest) }
 {
-    match read_found(alloc, bytes, at, arg)? {
+    match Greatest::read(alloc, bytes, at, arg)? {
         Some((found, behind)) => Ok(Some((AnyAgg::Greatest(found), behind))),
         None => Ok(None),
     }
 }
 
-// The value at a place, behind the byte 1, or none behind the byte 0; and the place behind it.
-fn read_found(
+// The set of values at a place, and the place behind it.
+#[tactic(auto, unfolding(crate::specs::StateBytes::state_bytes))]
+fn read_uniq(
+    alloc: Global,
+    bytes: &[u8],
+    at: usize,
+    arg: Scalar,
+) -> Result<Option<(AnyAgg, usize)>, AllocError>
+    ensures fits { IfOk result (λ read. IfSome read (λ r. FitsState AggName.UniqExact arg r.0)) }
+    ensures found { IfOk result (λ read. IfSome read (λ r. StandsAt (state_bytes arg r.0) bytes.now at r.1)) }
+    ensures none { IfOk result (λ read. IsNone read → (state : SomeState) (rest : List ℕ) → FitsState AggName.UniqExact arg state → drop at bytes.now ≢ state_bytes arg state ++ rest) }
+{
+    match Distinct::read(alloc, bytes, at, arg)? {
+        Some((values, behind)) => Ok(Some((AnyAgg::Uniq(values), behind))),
+        None => Ok(None),
+    }
+}
+
+/// The number of 8 bytes at a place, and the place behind it.
+pub(crate) fn read_number(bytes: &[u8], at: usize) -> Option<(u64, usize)>
+    ensures found { IfSome result (λ r. StandsAt (to_le_bytes w64 r.0) bytes.now at r.1) }
+    ensures none { IsNone result → (n : ℕ) (rest : List ℕ) → drop at bytes.now ≢ to_le_bytes w64 n ++ rest }
+{
+    let (number, behind) = read_fixed::<8>(bytes, at)?;
+    Some((unfix(&number), behind))
+}
+
+/// The value at a place, behind the byte 1, or none behind the byte 0; and the place behind it.
+pub(crate) fn read_found(
     alloc: Global,
     bytes: &[u8],
     at: usize,
@@ -150,17 +221,17 @@ fn read_found(
     }
 }
 
-// The set of values at a place, and the place behind it. Each value has a byte or more.
-#[tactic(auto, unfolding(crate::specs::StateBytes::state_bytes))]
-fn read_uniq(
+/// The set of values at a place, and the place behind it. Each value has a byte or more.
+pub(crate) fn read_set(
     alloc: Global,
     bytes: &[u8],
     at: usize,
     arg: Scalar,
-) -> Result<Option<(AnyAgg, usize)>, AllocError>
-    ensures fits { IfOk result (λ read. IfSome read (λ r. FitsState AggName.UniqExact arg r.0)) }
-    ensures found { IfOk result (λ read. IfSome read (λ r. StandsAt (state_bytes arg r.0) bytes.now at r.1)) }
-    ensures none { IfOk result (λ read. IsNone read → (state : SomeState) (rest : List ℕ) → FitsState AggName.UniqExact arg state → drop at bytes.now ≢ state_bytes arg state ++ rest) }
+) -> Result<Option<(ValueSet, usize)>, AllocError>
+    ensures fits { IfOk result (λ read. IfSome read (λ r. IsSet arg r.0)) }
+    ensures few { IfOk result (λ read. IfSome read (λ r. has_few r.0)) }
+    ensures found { IfOk result (λ read. IfSome read (λ r. StandsAt (set_bytes arg r.0) bytes.now at r.1)) }
+    ensures none { IfOk result (λ read. IsNone read → (values : List SomeValue) (rest : List ℕ) → IsSet arg values → has_few values → drop at bytes.now ≢ set_bytes arg values ++ rest) }
 {
     let Some((count, start)) = read_number(bytes, at) else {
         return Ok(None);
@@ -168,10 +239,7 @@ fn read_uniq(
     if count > (bytes.len() - start) as u64 {
         return Ok(None);
     }
-    match read_rising(alloc, bytes, start, arg, count)? {
-        Some((values, behind)) => Ok(Some((AnyAgg::Uniq(values), behind))),
-        None => Ok(None),
-    }
+    read_rising(alloc, bytes, start, arg, count)
 }
 
 // So many values at a place that rise, and the place behind them.

@@ -2,12 +2,15 @@
 ghost use Rattle.std.specs.Prelude.{◌≡◌, ◌++◌, IfOk, OnOk};
 ghost use Rattle.std.specs.List.{All};
 ghost use Rattle.chv_agg.specs.Plain.{values_spelling};
-ghost use Rattle.chv_agg.specs.StateBytes.{found_bytes, state_bytes};
+ghost use Rattle.chv_agg.specs.StateBytes.{found_bytes, set_bytes, state_bytes};
 ghost use Rattle.chv_agg.specs.States.{FitsFound, FitsState};
 ghost use Rattle.chv_types.specs.Fits.{IsOfScalar};
 
-use crate::{AnyAgg, spell_scalar};
-use chv_bytes::{IntKind, put_int};
+use crate::count::Count;
+use crate::extremes::{Greatest, Least};
+use crate::sums::{SignedSum, UnsignedSum};
+use crate::uniq::Distinct;
+use crate::{Aggregate, AnyAgg, ValueSet, spell_scalar};
 use chv_types::{AggName, Bytes, Scalar, Value};
 use std::alloc::{AllocError, Global};
 
@@ -28,18 +31,21 @@ fn put_state(state: &AnyAgg, arg: Scalar, out: &mut Vec<u8>) -> Result<(), Alloc
     ensures { OnOk result (out.new.items ≡ out.old.items ++ state_bytes arg state.now) }
 {
     match state {
-        AnyAgg::Count(n) | AnyAgg::SumU(n) => out.extend_from_slice(&n.to_le_bytes()),
-        AnyAgg::SumI(n) => put_int(out, IntKind::I64, i128::from(*n)),
-        AnyAgg::Least(found) | AnyAgg::Greatest(found) => put_found(found, arg, out),
-        AnyAgg::Uniq(values) => {
-            out.extend_from_slice(&(values.len() as u64).to_le_bytes())?;
-            put_values(values.as_slice(), arg, out)
-        }
+        AnyAgg::Count(n) => Count::spell(n, arg, out),
+        AnyAgg::SumU(n) => UnsignedSum::spell(n, arg, out),
+        AnyAgg::SumI(n) => SignedSum::spell(n, arg, out),
+        AnyAgg::Least(found) => Least::spell(found, arg, out),
+        AnyAgg::Greatest(found) => Greatest::spell(found, arg, out),
+        AnyAgg::Uniq(values) => Distinct::spell(values, arg, out),
     }
 }
 
-// Puts a value behind `out`, behind the byte 1, or the byte 0 where there is none.
-fn put_found(found: &Option<Value>, arg: Scalar, out: &mut Vec<u8>) -> Result<(), AllocError>
+/// Puts a value behind `out`, behind the byte 1, or the byte 0 where there is none.
+pub(crate) fn put_found(
+    found: &Option<Value>,
+    arg: Scalar,
+    out: &mut Vec<u8>,
+) -> Result<(), AllocError>
     requires kind { FitsFound arg found.now }
     ensures { OnOk result (out.new.items ≡ out.old.items ++ found_bytes arg found.now) }
 {
@@ -50,6 +56,15 @@ fn put_found(found: &Option<Value>, arg: Scalar, out: &mut Vec<u8>) -> Result<()
         }
         None => out.extend_from_slice(&[0]),
     }
+}
+
+/// Puts a set behind `out`: how many values it has, and the values.
+pub(crate) fn put_set(values: &ValueSet, arg: Scalar, out: &mut Vec<u8>) -> Result<(), AllocError>
+    requires kind { All (IsOfScalar arg) values.now }
+    ensures { OnOk result (out.new.items ≡ out.old.items ++ set_bytes arg values.now) }
+{
+    out.extend_from_slice(&(values.len() as u64).to_le_bytes())?;
+    put_values(values.as_slice(), arg, out)
 }
 
 // Puts values behind `out`.

@@ -6,6 +6,8 @@ ghost use Rattle.chv_types.specs.Order.{number};
 ghost use Rattle.chv_types.specs.Values.{seen_value};
 
 use crate::Aggregate;
+use crate::reading::read_number;
+use chv_bytes::{IntKind, put_int, read_int};
 use chv_types::{Scalar, Seen, Value};
 use std::alloc::{AllocError, Global};
 
@@ -53,6 +55,10 @@ fn signed_sum(a: i64, b: i64) -> i64
 pub struct UnsignedSum;
 
 impl Aggregate for UnsignedSum {
+    ghost use Rattle.chv_agg.specs.AggregateLaws.{keeps_none};
+    ghost use Rattle.chv_agg.specs.StateBytes.{agg_number, unsigned_bytes};
+    ghost use Rattle.chv_agg.specs.SpellingLaws.{unsigned_spelling};
+    ghost use Rattle.chv_types.specs.declared.aggregate.AggName.TheVariants as agg;
     ghost use Rattle.std.proofs.Common.{ap};
     ghost use Rattle.chv_agg.specs.Functions.{unsigned_fits, unsigned_join, unsigned_one, unsigned_value};
     ghost use Rattle.chv_agg.specs.Lists.{sum_value, total};
@@ -61,7 +67,15 @@ impl Aggregate for UnsignedSum {
 
     type State = u64;
 
+    const TAG: u8 = 1;
+
+    ghost TAG = { agg_number agg.Sum };
+
     ghost fits = { unsigned_fits };
+
+    ghost counted = { keeps_none };
+
+    ghost spelling = { unsigned_bytes };
 
     ghost none = { 0 };
 
@@ -74,6 +88,8 @@ impl Aggregate for UnsignedSum {
     ghost result_of = { λ arg values. sum_value false (total values) };
 
     ghost laws = { unsigned_sum_laws };
+
+    ghost spelled = { unsigned_spelling };
 
     ghost valued = { λ arg values of. ap (unsigned_value arg) (unsigned_sum_state values) };
 
@@ -94,6 +110,19 @@ impl Aggregate for UnsignedSum {
     fn finish(_alloc: Global, state: &u64, _arg: Scalar) -> Result<Value, AllocError> {
         Ok(Value::Whole(i128::from(*state)))
     }
+
+    fn spell(state: &u64, _arg: Scalar, out: &mut Vec<u8>) -> Result<(), AllocError> {
+        out.extend_from_slice(&state.to_le_bytes())
+    }
+
+    fn read(
+        _alloc: Global,
+        bytes: &[u8],
+        at: usize,
+        _arg: Scalar,
+    ) -> Result<Option<(u64, usize)>, AllocError> {
+        Ok(read_number(bytes, at))
+    }
 }
 
 /// The sum of numbers with sign, modulo 2^64.
@@ -101,6 +130,10 @@ impl Aggregate for UnsignedSum {
 pub struct SignedSum;
 
 impl Aggregate for SignedSum {
+    ghost use Rattle.chv_agg.specs.AggregateLaws.{keeps_none};
+    ghost use Rattle.chv_agg.specs.StateBytes.{agg_number, signed_bytes};
+    ghost use Rattle.chv_agg.specs.SpellingLaws.{signed_spelling};
+    ghost use Rattle.chv_types.specs.declared.aggregate.AggName.TheVariants as agg;
     ghost use Rattle.std.proofs.Common.{ap};
     ghost use Rattle.chv_agg.specs.Functions.{signed_fits, signed_join, signed_one, signed_value};
     ghost use Rattle.chv_agg.specs.Lists.{sum_value, total};
@@ -109,7 +142,15 @@ impl Aggregate for SignedSum {
 
     type State = i64;
 
+    const TAG: u8 = 1;
+
+    ghost TAG = { agg_number agg.Sum };
+
     ghost fits = { signed_fits };
+
+    ghost counted = { keeps_none };
+
+    ghost spelling = { signed_bytes };
 
     ghost none = { pos 0 };
 
@@ -122,6 +163,8 @@ impl Aggregate for SignedSum {
     ghost result_of = { λ arg values. sum_value true (total values) };
 
     ghost laws = { signed_sum_laws };
+
+    ghost spelled = { signed_spelling };
 
     ghost valued = { λ arg values of. ap (signed_value arg) (signed_sum_state values) };
 
@@ -141,5 +184,21 @@ impl Aggregate for SignedSum {
 
     fn finish(_alloc: Global, state: &i64, _arg: Scalar) -> Result<Value, AllocError> {
         Ok(Value::Whole(i128::from(*state)))
+    }
+
+    fn spell(state: &i64, _arg: Scalar, out: &mut Vec<u8>) -> Result<(), AllocError> {
+        put_int(out, IntKind::I64, i128::from(*state))
+    }
+
+    fn read(
+        _alloc: Global,
+        bytes: &[u8],
+        at: usize,
+        _arg: Scalar,
+    ) -> Result<Option<(i64, usize)>, AllocError> {
+        match read_int(bytes, at, IntKind::I64) {
+            Some((sum, behind)) => Ok(Some((sum as i64, behind))),
+            None => Ok(None),
+        }
     }
 }

@@ -5,9 +5,9 @@ ghost use Rattle.chv_agg.specs.States.{FitsState, IsOver, join, one_like, unit_o
 ghost use Rattle.chv_agg.specs.Tallies.{IsCounted};
 ghost use Rattle.chv_types.specs.Values.{seen_value};
 
-use crate::gathering::{Work, begin, end, take_state, take_value};
+use crate::gathering::{Work, begin, end, take_state, take_value, value};
 use crate::states::any_whole;
-use crate::{AnyAgg, any_finish, any_spell};
+use crate::{AnyAgg, any_spell};
 use chv_types::{AggName, Scalar, Seen, Value};
 use std::alloc::{AllocError, Global};
 use std::marker::Model;
@@ -65,8 +65,7 @@ impl Tally {
         ensures { IfOk result (λ value. value ≡ value_of arg self) }
     {
         let Tally { work } = self;
-        let state = end(work);
-        any_finish(alloc, &state, arg)
+        value(alloc, work, arg)
     }
 
     /// The state over values of a kind, as a value.

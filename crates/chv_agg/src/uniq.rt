@@ -5,6 +5,8 @@ ghost use Rattle.chv_types.specs.Members.{members};
 ghost use Rattle.chv_types.specs.Order.{value_cmp};
 ghost use Rattle.chv_types.specs.Values.{seen_value};
 
+use crate::reading::read_set;
+use crate::spelling::put_set;
 use crate::{Aggregate, ValueSet};
 use chv_types::{Scalar, Seen, Value};
 use sqlite_items::Items;
@@ -67,6 +69,9 @@ fn copied_values(alloc: Global, values: &ValueSet) -> Result<Vec<Value>, AllocEr
 pub struct Distinct;
 
 impl Aggregate for Distinct {
+    ghost use Rattle.chv_agg.specs.AggregateLaws.{has_few};
+    ghost use Rattle.chv_agg.specs.StateBytes.{agg_number, set_bytes};
+    ghost use Rattle.chv_agg.specs.SpellingLaws.{set_spelling};
     ghost use Rattle.std.proofs.Common.{ap};
     ghost use Rattle.std.specs.Prelude.{[]};
     ghost use Rattle.chv_agg.specs.Functions.{set_join, set_one, set_value};
@@ -77,7 +82,15 @@ impl Aggregate for Distinct {
 
     type State = ValueSet;
 
+    const TAG: u8 = 4;
+
+    ghost TAG = { agg_number agg.UniqExact };
+
     ghost fits = { IsSet };
+
+    ghost counted = { has_few };
+
+    ghost spelling = { set_bytes };
 
     ghost none = { [] };
 
@@ -90,6 +103,8 @@ impl Aggregate for Distinct {
     ghost result_of = { aggregate_of agg.UniqExact };
 
     ghost laws = { set_laws };
+
+    ghost spelled = { set_spelling };
 
     ghost valued = { λ arg values of. ap (set_value arg) (set_state values) };
 
@@ -107,5 +122,18 @@ impl Aggregate for Distinct {
 
     fn finish(_alloc: Global, state: &ValueSet, _arg: Scalar) -> Result<Value, AllocError> {
         Ok(Value::Whole(state.len() as i128))
+    }
+
+    fn spell(state: &ValueSet, arg: Scalar, out: &mut Vec<u8>) -> Result<(), AllocError> {
+        put_set(state, arg, out)
+    }
+
+    fn read(
+        alloc: Global,
+        bytes: &[u8],
+        at: usize,
+        arg: Scalar,
+    ) -> Result<Option<(ValueSet, usize)>, AllocError> {
+        read_set(alloc, bytes, at, arg)
     }
 }

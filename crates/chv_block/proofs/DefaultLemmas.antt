@@ -1,5 +1,5 @@
 -- What a column has where nothing is said is of the column's kind.
-use Rattle.std.proofs.Common.{◌≡◌, ℕ, pos, List, [], ◌∷◌, map, Bool, true, false, None, refl, arith, rules}
+use Rattle.std.proofs.Common.{◌≡◌, pos, List, [], ◌∷◌, map, Bool, true, false, None, refl, arith, rules}
 use Rattle.std.proofs.lemmas.Int.{ints}
 use Rattle.std.proofs.lemmas.List.Elements.{All-nil}
 use Rattle.chv_agg.specs.StateBytes.{AreState, state_bytes}

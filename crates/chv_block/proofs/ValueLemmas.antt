@@ -1,6 +1,6 @@
 -- Values of kinds, and their spellings.
 use Rattle.std.proofs.Common.{◌≡◌, ℕ, List, ◌++◌, sym, ap, ◌∙◌}
-use Rattle.chv_agg.proofs.PlainLemmas.{one_scalar}
+use Rattle.chv_agg.specs.PlainLaws.{one_scalar}
 use Rattle.chv_agg.proofs.StateFrontLemmas.{one_state_in_front}
 use Rattle.chv_agg.specs.StateBytes.{AreState, state_bytes}
 use Rattle.chv_types.specs.declared.aggregate.AggName.{AggName}

@@ -5,7 +5,7 @@ ghost use Rattle.chv_agg.specs.StateBytes.{agg_number};
 ghost use Rattle.chv_block.specs.Spellings.{AreOf, AllAreOf, kind_code, codes_of, row_spelling, rows_spelling, block_spelling};
 
 use crate::spell_value;
-use chv_agg::scalar_code;
+use chv_agg::{Aggregate, Count, Distinct, Greatest, Least, UnsignedSum, scalar_code};
 use chv_types::{AggName, Block, Bytes, Kind, Kinds, Row, Value};
 use std::alloc::{AllocError, Global};
 
@@ -72,11 +72,11 @@ fn state_code(agg: AggName) -> u8
     ensures { result ≡ 16 + agg_number agg }
 {
     match agg {
-        AggName::Count => 16,
-        AggName::Sum => 17,
-        AggName::Min => 18,
-        AggName::Max => 19,
-        AggName::UniqExact => 20,
+        AggName::Count => 16 + Count::TAG,
+        AggName::Sum => 16 + UnsignedSum::TAG,
+        AggName::Min => 16 + Least::TAG,
+        AggName::Max => 16 + Greatest::TAG,
+        AggName::UniqExact => 16 + Distinct::TAG,
     }
 }
 

@@ -4,13 +4,13 @@ ghost use Rattle.chv_bytes.specs.Places.{StandsAt};
 ghost use Rattle.chv_types.specs.declared.value.Value.{Value as Seen};
 ghost use Rattle.chv_block.specs.Spellings.{IsOf, value_spelling};
 
-use chv_agg::{any_read, read_scalar};
+use chv_agg::{read_scalar, state_end};
 use chv_types::{AggName, Bytes, Kind, Scalar, Value};
 use std::alloc::{AllocError, Global};
 
 /// The value of a kind whose spelling begins at `at`, and the place behind it. None where no value's does.
 ///
-/// The length of a text, and the number of values of a state, is compared with the bytes that are left before memory is taken for it.
+/// The length of a text is compared with the bytes that are left before memory is taken for it, and a state is read over first.
 pub fn read_value(
     alloc: Global,
     kind: Kind,
@@ -39,8 +39,8 @@ fn read_state(
     ensures found { IfOk result (λ read. IfSome read (λ r. StandsAt (value_spelling (Kind.State agg arg) r.0) bytes.now at r.1)) }
     ensures none { IfOk result (λ read. IsNone read → (value : Seen) (rest : List ℕ) → IsOf (Kind.State agg arg) value → drop at bytes.now ≢ value_spelling (Kind.State agg arg) value ++ rest) }
 {
-    match any_read(alloc, bytes, at, agg, arg)? {
-        Some((_, end)) => {
+    match state_end(bytes, at, agg, arg) {
+        Some(end) => {
             let state = Bytes::from_slice(alloc, &bytes[at..end])?;
             Ok(Some((Value::State(state), end)))
         }

@@ -8,7 +8,7 @@ ghost use Rattle.chv_expr.specs.declared.tree.Tree.TheVariants as tree;
 ghost use Rattle.chv_types.specs.Steps.{or_refuse};
 ghost use Rattle.chv_types.specs.declared.value.Value.{Value as SomeValue};
 
-use crate::evaluate::value;
+use crate::evaluate::{value, value_at};
 use crate::tree::Tree;
 use crate::{Untyped, ZeroDivisor};
 use chv_types::{Kind, Scalar, Seen, Value};
@@ -97,9 +97,15 @@ impl Bound {
     }
 
     /// Its value over a row, borrowed from the row or from a literal. It takes no memory.
+    #[tactic(auto, using(crate::proofs::TreeLaws::tree_laws))]
     pub fn seen<'a>(&'a self, row: &'a [Value]) -> Result<Seen<'a>, ZeroDivisor>
         ensures { value_in result ≡ meaning self.now row.now }
     {
-        value(self.tree.get(), row)
+        // Most are a column or a constant: these need no walk.
+        match self.tree.get() {
+            Tree::Column(place) => Ok(value_at(row, *place)),
+            Tree::Constant(constant) => Ok(constant.seen()),
+            tree => value(tree, row),
+        }
     }
 }

@@ -1,3 +1,5 @@
+pub mod ClimbLemmas
+pub mod CollapseLemmas
 pub mod FinishLemmas
 pub mod GroupLemmas
 pub mod KeyBytesLemmas

@@ -1,7 +1,8 @@
 -- The bytes by which a key is found.
-use Rattle.std.specs.Prelude.{ℕ, ℤ, ◌<◌, ◌^◌, List, [], ◌∷◌, ◌++◌, length, map}
+use Rattle.std.specs.Prelude.{ℕ, ℤ, ◌≡◌, ◌<◌, ◌<ℤ◌, ◌^◌, List, [], ◌∷◌, ◌++◌, length, map}
 use Rattle.std.specs.Int.{cast_unsigned, to_le_bytes, w64, w128}
 use Rattle.std.specs.Int.RustNames.{FitsSigned}
+use Rattle.std.specs.List.{All}
 use Rattle.std.specs.declared.alloc.Global.{Global}
 use Rattle.std.specs.declared.vec.Vec.{Vec}
 use Rattle.chv_agg.specs.Plain.{truth_spelling}
@@ -42,3 +43,22 @@ IsHeld (State spelling) = length spelling < 2 ^ 64
 -- the bytes of vectors
 abbrev pub texts_of : List (Vec ℕ Global) → List (List ℕ)
 texts_of keys = map (λ key. key.items) keys
+
+-- the bytes of the key that is one number
+abbrev pub number_name : ℤ → List ℕ
+number_name n = key_bytes (Whole n ∷ [])
+
+-- the bytes of keys of one number, and behind them those of vectors
+abbrev pub names_of : List ℤ → List (Vec ℕ Global) → List (List ℕ)
+names_of numbers keys = map number_name numbers ++ texts_of keys
+
+-- each number is below those behind it
+abbrev pub Climb : List ℤ → Type 0
+Climb [] = Unit {0}
+Climb (n ∷ numbers) = All (λ m. n <ℤ m) numbers × Climb numbers
+
+-- numbers that climb, or behind none of them others
+pub record AreKept (climbing numbers : List ℤ) : Type 0 where
+  pub fit : All (FitsSigned w128) (climbing ++ numbers)
+  pub climb : Climb climbing
+  pub alone : 0 < length climbing → numbers ≡ []

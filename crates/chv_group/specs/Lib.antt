@@ -1,3 +1,4 @@
+pub mod Collapses
 pub mod Groups
 pub mod KeyBytes
 pub mod Takings

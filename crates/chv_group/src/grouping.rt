@@ -7,7 +7,6 @@ ghost use Rattle.chv_group.specs.Tallies.{AreOver, fed, units, values_of};
 ghost use Rattle.chv_group.specs.declared.call.Keyed.{Keyed as Input};
 ghost use Rattle.chv_types.specs.Values.{seen_value};
 
-use crate::key_bytes::put_key;
 use crate::key_group::{KeyGroup, rows_of, sorted};
 use crate::key_names::KeyNames;
 use crate::tallies::Tallies;
@@ -148,12 +147,11 @@ fn feed_groups(
     ensures taken { OnOk result ((taken : List Input) → AreOf calls.now names.old groups.old.items taken
         → AreOf calls.now names.new groups.new.items (taken ++ record { key = map seen_value key.now; args = map seen_value args.now } ∷ [])) }
 {
-    put_key(key, name)?;
-    match names.place(name.as_slice()) {
+    match names.place(alloc, key, name)? {
         Some(place) => groups[place].take(alloc, calls, args),
         None => {
             groups.push(first_of(alloc, calls, key, args)?)?;
-            names.add(alloc, name.as_slice())
+            names.add(alloc, key, name)
         }
     }
 }

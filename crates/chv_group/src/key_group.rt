@@ -30,7 +30,7 @@ impl KeyGroup {
         ensures key { IfOk result (λ group. group.key ≡ map seen_value key.now) }
         ensures tallies { IfOk result (λ group. group.tallies ≡ units calls.now) }
     {
-        let key = row_of(alloc, key)?;
+        let key = row_of(alloc, key, calls.len())?;
         let tallies = Tallies::new(alloc, calls)?;
         Ok(KeyGroup { key, tallies })
     }
@@ -52,11 +52,11 @@ impl KeyGroup {
     }
 }
 
-// The values that are seen, in new memory.
-fn row_of(alloc: Global, key: &[Seen<'_>]) -> Result<Row, AllocError>
+// The values that are seen, in new memory that has room for so many more.
+fn row_of(alloc: Global, key: &[Seen<'_>], more: usize) -> Result<Row, AllocError>
     ensures { IfOk result (λ row. row ≡ map seen_value key.now) }
 {
-    let mut values = Vec::with_capacity(alloc, key.len())?;
+    let mut values = Vec::with_capacity(alloc, key.len().saturating_add(more))?;
     for value in key {
         values.push(value.to_value(alloc)?)?;
     }

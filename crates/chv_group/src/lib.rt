@@ -2,6 +2,7 @@
 #![tactic(auto)]
 
 mod call;
+mod climbing;
 mod grouping;
 mod key_bytes;
 mod key_group;
@@ -11,4 +12,4 @@ mod tallies;
 
 pub use call::{AggCall, AggCalls, Keyed, KeyedRows};
 pub use grouping::{Grouping, group};
-pub use laws::law_groups;
+pub use laws::{law_grouped_bag, law_grouped_collapse, law_groups};

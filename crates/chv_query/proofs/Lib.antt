@@ -1,6 +1,7 @@
 pub mod AcceptedLemmas
 pub mod AptLemmas
 pub mod ArrivalLemmas
+pub mod ArrangeLemmas
 pub mod BoundLemmas
 pub mod CallLemmas
 pub mod CellLemmas

@@ -1,5 +1,5 @@
 -- What a query gives over rows: docs/SQL.md, "SELECT".
-use Rattle.std.specs.Prelude.{ℕ, Bool, true, List, [], ◌∷◌, map, take, drop, if◌then◌else◌, Option, None, Some, is_none}
+use Rattle.std.specs.Prelude.{ℕ, ◌≡◌, Bool, true, List, [], ◌∷◌, map, take, drop, slice_get, if◌then◌else◌, Option, None, Some, is_none}
 use Rattle.std.specs.List.{flat_map, list_any, position}
 use Rattle.std.specs.Option.{option_map, option_and_then, unwrap_or}
 use Rattle.chv_types.specs.declared.value.Value.{Value}
@@ -35,6 +35,10 @@ keyed keys values = record { key = take keys values; args = drop keys values }
 -- the values at these places
 abbrev pub arranged : List ℕ → List Value → List Value
 arranged places row = map (λ place. value_at place row) places
+
+-- places are those from the first on
+abbrev pub AreInOrder : List ℕ → Type 0
+AreInOrder places = (place at : ℕ) → slice_get places place ≡ Some at → at ≡ place
 
 -- what becomes of rows: they are grouped, where they are
 unfoldable pub shaped : Option Groups → List (List Value) → List (List Value)

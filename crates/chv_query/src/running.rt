@@ -1,14 +1,14 @@
 // Rows of queries that group.
-ghost use Rattle.std.specs.Prelude.{◌≡◌, ◌++◌, ◌∷◌, [], ℕ, List, Some, None, IsSome, map, take, drop, IfOk, IfErr, OnOk};
+ghost use Rattle.std.specs.Prelude.{◌≡◌, ◌++◌, ◌∷◌, [], ℕ, List, Some, None, IsSome, IsTrue, map, take, drop, IfOk, IfErr, OnOk};
 ghost use Rattle.std.specs.List.{All};
 ghost use Rattle.chv_group.specs.Takings.{HasTaken};
 ghost use Rattle.chv_group.specs.declared.call.Keyed.{Keyed as Input};
 ghost use Rattle.chv_query.specs.Bound.{TakesRow, first_division, made_by, term_in};
-ghost use Rattle.chv_query.specs.Results.{arranged, keyed, output_row, results, shaped};
+ghost use Rattle.chv_query.specs.Results.{AreInOrder, arranged, keyed, output_row, results, shaped};
 ghost use Rattle.chv_types.specs.Values.{seen_value};
 ghost use Rattle.chv_types.specs.declared.value.Value.{Value as SomeValue};
 
-use crate::run::passes;
+use crate::run::{have_width, passes};
 use crate::{BlockFault, Groups, Query};
 use chv_expr::{Bound, EvalFault, ZeroDivisor, value_at};
 use chv_group::{AggCalls, Grouping};
@@ -30,7 +30,7 @@ pub fn run_groups(
 {
     let grouping = feed_rows(alloc, query, groups, rows)?;
     let made = grouping.finish(alloc, groups.always)?;
-    Ok(arrange(alloc, groups.cells.as_slice(), made.as_slice())?)
+    Ok(arrange(alloc, groups.cells.as_slice(), made)?)
 }
 
 // A grouping that has taken what is made of rows.
@@ -142,8 +142,37 @@ fn args_of<'a>(values: &'a [Seen<'a>], keys: usize) -> &'a [Seen<'a>]
     }
 }
 
-// The values of each of some rows at these places.
-fn arrange(alloc: Global, places: &[usize], rows: &[Row]) -> Result<Block, AllocError>
+// The values of each of some rows at these places. Rows that stay as they are are not copied.
+fn arrange(alloc: Global, places: &[usize], rows: Block) -> Result<Block, AllocError>
+    ensures { IfOk result (λ made. made ≡ map (arranged places.now) rows) }
+{
+    if keep_rows(places, rows.as_slice()) {
+        return Ok(rows);
+    }
+    arrange_each(alloc, places, rows.as_slice())
+}
+
+// Whether the values of each of some rows at these places are the row.
+fn keep_rows(places: &[usize], rows: &[Row]) -> bool
+    ensures { IsTrue result → map (arranged places.now) rows.now ≡ rows.now }
+{
+    are_in_order(places) && have_width(rows, places.len())
+}
+
+// Whether places are those from the first on.
+fn are_in_order(places: &[usize]) -> bool
+    ensures { IsTrue result → AreInOrder places.now }
+{
+    for i in 0..places.len() {
+        if places[i] != i {
+            return false;
+        }
+    }
+    true
+}
+
+// The values of each of some rows at these places, in new memory.
+fn arrange_each(alloc: Global, places: &[usize], rows: &[Row]) -> Result<Block, AllocError>
     ensures { IfOk result (λ made. made ≡ map (arranged places.now) rows.now) }
 {
     let mut made = Block::new(alloc);

@@ -11,23 +11,21 @@ use Rattle.chv_group.proofs.grouping.feed_groups.Goals as goal
 pub returns-in-Some-clause-taken : goal.returns-in-Some-clause-taken
 returns-in-Some-clause-taken c =
     let key = map seen_value c.args.key.now in
-    let name : c.as_slice.result.now ≡ key_bytes key = c.as_slice.ensures.value ∙ c.in_ok-put_key.ensures.put ∙ ap (λ (bytes : List ℕ). bytes ++ key_bytes key) c.requires.empty in
-    let at : place_of (key_bytes key) c.args.names.now ≡ Some c.in-Some.place = ap (λ (bytes : List ℕ). place_of bytes c.args.names.now) (sym name) ∙ sym c.place.ensures.place ∙ c.in-Some.is in
+    let at : place_of (key_bytes key) c.args.names.now ≡ Some c.in-Some.place = sym c.in_ok-place.ensures.place ∙ c.in-Some.is in
     let old = c.index_mut.result.now in
     let there : old ≡ get_or c.args.groups.now.items c.in-Some.place old = c.index_mut.ensures.value in
-    on_ok_weaker c.take.result (λ taken inputs of.
-    AreOf-known c.args.calls.now c.args.names.now c.args.groups.now.items inputs (record { key = key; args = map seen_value c.args.args.now }) of c.in_ok-put_key.ensures.held c.requires.takes
+    let kept : c.place.new.self ≡ c.args.names.now = c.in_ok-place.ensures.kept in
+    on_ok_weaker c.take.result (λ taken inputs of. rw kept (
+    AreOf-known c.args.calls.now c.args.names.now c.args.groups.now.items inputs (record { key = key; args = map seen_value c.args.args.now }) of c.in_ok-place.ensures.held c.requires.takes
     c.in-Some.place old c.take.new.self at (c.take.ensures.key ∙ ap (λ (group : KeyGroup). group.key) there)
-    (taken ∙ ap (λ (group : KeyGroup). fed c.args.calls.now group.tallies (map seen_value c.args.args.now)) there)) c.take.ensures.taken
+    (taken ∙ ap (λ (group : KeyGroup). fed c.args.calls.now group.tallies (map seen_value c.args.args.now)) there))) c.take.ensures.taken
 
 pub returns-in_ok-push-in-None-clause-taken : goal.returns-in_ok-push-in-None-clause-taken
 returns-in_ok-push-in-None-clause-taken c =
     let key = map seen_value c.args.key.now in
-    let name : c.as_slice.result.now ≡ key_bytes key = c.as_slice.ensures.value ∙ c.in_ok-put_key.ensures.put ∙ ap (λ (bytes : List ℕ). bytes ++ key_bytes key) c.requires.empty in
-    let again : c.as_slice-in-None.result.now ≡ key_bytes key = c.as_slice-in-None.ensures.value ∙ c.in_ok-put_key.ensures.put ∙ ap (λ (bytes : List ℕ). bytes ++ key_bytes key) c.requires.empty in
-    let none : place_of (key_bytes key) c.args.names.now ≡ None = ap (λ (bytes : List ℕ). place_of bytes c.args.names.now) (sym name) ∙ sym c.place.ensures.place ∙ c.in-None.is in
+    let none : place_of (key_bytes key) c.args.names.now ≡ None = sym c.in_ok-place.ensures.place ∙ c.in-None.is in
     on_ok_weaker c.add.result (λ added inputs of.
-    let names : c.add.new.self ≡ c.args.names.now ++ key_bytes key ∷ [] = added ∙ ap (λ (bytes : List ℕ). c.args.names.now ++ bytes ∷ []) again in
+    let names : c.add.new.self ≡ c.args.names.now ++ key_bytes key ∷ [] = added ∙ ap (λ (some : List (List ℕ)). some ++ key_bytes key ∷ []) c.in_ok-place.ensures.kept in
     rw (names, c.in_ok-push-in-None.ensures.items)
-    (AreOf-new c.args.calls.now c.args.names.now c.args.groups.now.items inputs (record { key = key; args = map seen_value c.args.args.now }) of c.in_ok-put_key.ensures.held c.requires.takes
+    (AreOf-new c.args.calls.now c.args.names.now c.args.groups.now.items inputs (record { key = key; args = map seen_value c.args.args.now }) of c.in_ok-place.ensures.held c.requires.takes
     c.in_ok-first_of-in-None.field-0 none c.in_ok-first_of-in-None.ensures.key c.in_ok-first_of-in-None.ensures.taken)) c.add.ensures

@@ -1,13 +1,25 @@
-use Rattle.std.proofs.Common.{◌≡◌, ◌∙◌, ◌++◌, ◌∷◌, [], List, ℕ, None, ap}
-use Rattle.chv_group.proofs.KeyNameLemmas.{texts_of-insert_key}
-use Rattle.chv_group.specs.KeyBytes.{texts_of}
+use Rattle.std.proofs.Common.{◌≡◌, ◌∙◌, ◌++◌, ℤ, List, None, map, ap, rules, sym, to_z, of_z}
+use Rattle.std.specs.Int.{w128}
+use Rattle.chv_group.proofs.KeyNameLemmas.{none-behind, none-front}
+use Rattle.chv_group.specs.KeyBytes.{key_bytes, names_of, number_name}
 use Rattle.chv_types.specs.Names.{place_of}
+use Rattle.chv_types.specs.Values.{seen_value}
+use Rattle.chv_types.specs.declared.value.Value.{Value}
 use Rattle.chv_group.proofs.key_names.KeyNames.add.Goals as goal
 
-pub returns : goal.returns
-returns c =
-    let items : c.in_ok-name.name.items ≡ c.args.name.now = c.in_ok-name.ensures.items in
-    let new : place_of c.in_ok-name.name.items (texts_of c.self.inside.set.keys) ≡ None =
-    ap (λ (name : List ℕ). place_of name (texts_of c.self.inside.set.keys)) items ∙ ap (place_of c.args.name.now) c.self.view_is ∙ c.requires.new in
-    ap texts_of c.in_ok-insert.ensures.keys ∙ texts_of-insert_key c.in_ok-name.name c.self.inside.set.keys new
-    ∙ ap (λ (name : List ℕ). texts_of c.self.inside.set.keys ++ name ∷ []) items ∙ ap (λ (names : List (List ℕ)). names ++ c.args.name.now ∷ []) c.self.view_is
+pub add_number-requires-clause-new : goal.add_number-requires-clause-new
+add_number-requires-clause-new c =
+    let key = map seen_value c.args.key.now in
+    let numbers = c.self.inside.climbing.items ++ c.self.inside.numbers.keys in
+    let texts = c.self.inside.texts.keys in
+    let same : to_z w128 (of_z w128 c.in-Some.n) ≡ c.in-Some.n = search rules in
+    let none : place_of (key_bytes key) (names_of numbers texts) ≡ None = ap (place_of (key_bytes key)) c.self.view_is ∙ c.requires.new in
+    ap (λ (n : ℤ). place_of (number_name n) (map number_name numbers)) same
+    ∙ ap (λ (values : List Value). place_of (key_bytes values) (map number_name numbers)) (sym c.in-Some.ensures.number) ∙ none-front (key_bytes key) numbers texts none
+
+pub add_bytes-requires : goal.add_bytes-requires
+add_bytes-requires c =
+    let key = map seen_value c.args.key.now in
+    record {
+      new = none-behind (key_bytes key) (c.self.inside.climbing.items ++ c.self.inside.numbers.keys) c.self.inside.texts.keys (ap (place_of (key_bytes key)) c.self.view_is ∙ c.requires.new);
+    }

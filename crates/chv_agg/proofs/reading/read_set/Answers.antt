@@ -1,11 +1,8 @@
 use Rattle.std.proofs.Common.{◌-◌, ◌<◌, ◌^◌, length, rules}
 use Rattle.std.specs.Int.{to_le_bytes, w64}
 use Rattle.chv_bytes.specs.Places.{StandsAt}
-use Rattle.chv_agg.proofs.ReadingLemmas.{none_set, none_uniq, too_many}
-use Rattle.chv_agg.proofs.reading.read_uniq.Goals as goal
-
-pub returns-in_default-clause-none : goal.returns-in_default-clause-none
-returns-in_default-clause-none c none = none_uniq c.args.bytes.now c.args.at (search rules) c.args.arg
+use Rattle.chv_agg.proofs.ReadingLemmas.{none_set, too_many}
+use Rattle.chv_agg.proofs.reading.read_set.Goals as goal
 
 pub returns-then-count-bytes-clause-none : goal.returns-then-count-bytes-clause-none
 returns-then-count-bytes-clause-none c none =
