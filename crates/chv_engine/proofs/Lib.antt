@@ -3,6 +3,7 @@ pub mod CreateLemmas
 pub mod DeliverLemmas
 pub mod DoneLemmas
 pub mod EndLemmas
+pub mod GuaranteeLemmas
 pub mod InsertLemmas
 pub mod KnownLemmas
 pub mod OpenedLemmas

@@ -1,11 +1,9 @@
 // How a script is answered, request by request.
 ghost use Rattle.std.specs.Prelude.{◌≡◌, ◌⊎◌, List, ℕ, IfOk, IsErrOf};
 ghost use Rattle.std.specs.List.{All};
-ghost use Rattle.chv_history.specs.Crashes.{IsLeftBy};
-ghost use Rattle.chv_history.specs.Events.{begins};
+ghost use Rattle.chv_history.specs.Guarantees.{IsLeftWhole};
 ghost use Rattle.chv_history.specs.Histories.{History, Settles};
 ghost use Rattle.chv_history.specs.Kept.{Kept, Refuses};
-ghost use Rattle.chv_history.specs.Runs.{run_events};
 ghost use Rattle.chv_history.specs.Script.{from_client, requests_in, requests_of};
 ghost use Rattle.chv_lex.specs.Scripts.{IsPieceOf};
 ghost use Rattle.chv_part.specs.declared.damage.Damage.{Damage};
@@ -34,9 +32,9 @@ pub fn run_script<W: Site>(alloc: Global, site: &mut W, script: &[u8]) -> Result
     // Whatever the files stand for, whether a statement is refused follows from the script and what the logs say; of a query that
     // no check refuses it follows from the rows, where it may divide by zero.
     ensures refused { W.tells → IfOk result (λ refused. (kept : Kept) → HasKept (bytes_in (W.outside site.old)) kept → Refuses (requests_of script.now) kept refused) }
-    // A crash at any moment of the call leaves files and a text of one moment of the run.
+    // A crash at any moment of the call leaves files and a text of one moment of the run, which holds what was acknowledged.
     ensures during { W.tells → (history : History) → Settles (W.outside site.old).files history → During (W.outside site.old) (W.outside site.new)
-        (IsLeftBy (run_events (requests_of script.now) (begins history)) (W.outside site.old).said (begins history)) }
+        (IsLeftWhole (requests_of script.now) history (W.outside site.old).said) }
     // Damage is told where a file is damaged, and never where the files stand for a history.
     ensures damaged { W.tells → (damage : Damage) → IsErrOf result (RunFault.Damaged damage) → SaysDamage (W.outside site.old) (W.outside site.new) }
     ensures undamaged { W.tells → (history : History) (damage : Damage) → Settles (W.outside site.old).files history → ¬ IsErrOf result (RunFault.Damaged damage) }

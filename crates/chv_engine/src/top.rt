@@ -1,10 +1,8 @@
 // The whole call.
 ghost use Rattle.std.specs.Prelude.{◌≡◌, ◌≢◌, ◌⊎◌, ◌≤◌, List, ℕ, length};
-ghost use Rattle.chv_history.specs.Crashes.{IsLeftBy};
-ghost use Rattle.chv_history.specs.Events.{begins};
+ghost use Rattle.chv_history.specs.Guarantees.{IsLeftWhole};
 ghost use Rattle.chv_history.specs.Histories.{History, Settles};
 ghost use Rattle.chv_history.specs.Kept.{Kept, Refuses};
-ghost use Rattle.chv_history.specs.Runs.{run_events};
 ghost use Rattle.chv_history.specs.Script.{requests_of};
 ghost use Rattle.chv_site.specs.During.{During};
 ghost use Rattle.chv_site.specs.Outside.{bytes_in};
@@ -45,9 +43,10 @@ pub fn chviews<S: Source, W: Site>(
     // no check refuses it follows from the rows, where it may divide by zero.
     ensures refused { S.tells → W.tells → IfEnded result (λ refused. (kept : Kept) → HasKept (bytes_in (W.outside site.old)) kept → Refuses (requests_of (S.left source.old)) kept refused) }
     // At any moment since the call began, whatever a crash leaves: the files stand for the history behind some of the run's
-    // events, and the text is the one behind them, or goes on by a front of what the next event says.
+    // events, and the text is the one behind them, or goes on by a front of what the next event says. There each insert whose
+    // Ok line was said to its end is held, whole where ids and tokens tell blocks apart, and no block is twice within a window.
     ensures during { S.tells → W.tells → (history : History) → Settles (W.outside site.old).files history → During (W.outside site.old) (W.outside site.new)
-        (IsLeftBy (run_events (requests_of (S.left source.old)) (begins history)) (W.outside site.old).said (begins history)) }
+        (IsLeftWhole (requests_of (S.left source.old)) history (W.outside site.old).said) }
     // Damage is told only where a file is damaged, by the last line that was said, and never where the files stand for a history.
     ensures damaged { W.tells → result ≡ Status.Damaged → SaysDamage (W.outside site.old) (W.outside site.new) }
     ensures undamaged { W.tells → (history : History) → Settles (W.outside site.old).files history → result ≢ Status.Damaged }
@@ -74,7 +73,7 @@ fn run<S: Source, W: Site>(alloc: Global, source: &mut S, site: &mut W) -> Statu
         → IfEnded result (EndsAt (requests_of (S.left source.old)) history (W.outside site.old) (W.outside site.new)) }
     ensures refused { S.tells → W.tells → IfEnded result (λ refused. (kept : Kept) → HasKept (bytes_in (W.outside site.old)) kept → Refuses (requests_of (S.left source.old)) kept refused) }
     ensures during { S.tells → W.tells → (history : History) → Settles (W.outside site.old).files history → During (W.outside site.old) (W.outside site.new)
-        (IsLeftBy (run_events (requests_of (S.left source.old)) (begins history)) (W.outside site.old).said (begins history)) }
+        (IsLeftWhole (requests_of (S.left source.old)) history (W.outside site.old).said) }
     ensures damaged { W.tells → result ≡ Status.Damaged → SaysDamage (W.outside site.old) (W.outside site.new) }
     ensures undamaged { W.tells → (history : History) → Settles (W.outside site.old).files history → result ≢ Status.Damaged }
     ensures meets { S.tells → W.tells → length (S.left source.old) ≤ MAX_SCRIPT → MeetsNoFault (S.faults source.old) (S.faults source.new) (W.outside site.old) (W.outside site.new)

@@ -3,6 +3,7 @@ pub mod ArrivingLemmas
 pub mod CommitLemmas
 pub mod EntryLemmas
 pub mod FillingLemmas
+pub mod GuaranteeLemmas
 pub mod KeptLemmas
 pub mod LawfulLemmas
 pub mod LeftLemmas

@@ -2,6 +2,7 @@ pub mod Acknowledged
 pub mod Built
 pub mod Crashes
 pub mod Events
+pub mod Guarantees
 pub mod Histories
 pub mod Kept
 pub mod Lives

@@ -5,7 +5,8 @@ use Rattle.chv_history.specs.Script.{Request, requests_of}
 use Rattle.chv_engine.specs.Answers.{RunsAll}
 use Rattle.chv_engine.specs.Telling.{TellsFault}
 use Rattle.chv_engine.specs.declared.fault.RunFault.{RunFault}
-use Rattle.chv_engine.proofs.EndLemmas.{counts_told, never_told, opening_during, run_during, run_ends, run_refused, run_undamaged, says_held, says_opening, settles_files, tells_met, tells_opening, untold_during, untouched_during}
+use Rattle.chv_engine.proofs.EndLemmas.{counts_told, never_told, opening_during, run_during, run_ends, run_refused, run_undamaged, says_held, says_opening, settles_files, tells_met, tells_opening, untold_during}
+use Rattle.chv_engine.proofs.GuaranteeLemmas.{untouched_whole, whole_during}
 use Rattle.chv_engine.proofs.OpenedLemmas.{opened_logged}
 use Rattle.chv_engine.proofs.OrderLemmas.{requests_of-pieces}
 use Rattle.chv_engine.proofs.RunLemmas.{counts_then}
@@ -16,7 +17,7 @@ pub returns-in_err-pieces-clause-during : goal.returns-in_err-pieces-clause-duri
 returns-in_err-pieces-clause-during g c = λ tells history settles.
     let S = g.W.Site in
     let site = c.args.site.now in
-    untouched_during (requests_of c.args.script.now) history (S.outside site) settles (g.met.W.Site.only_now site)
+    untouched_whole c.args.script.now history (S.outside site) settles (g.met.W.Site.only_now site)
 
 -- the store was opened
 pub returns-in-Ok-clause-ended : goal.returns-in-Ok-clause-ended
@@ -53,8 +54,9 @@ returns-in-Ok-clause-during g c = λ tells history settles.
     let runs = subst (λ (rs : List Request). RunsAll S.tells rs c.run_pieces.result c.in-Ok.store c.run_pieces.new.store mid new) same c.run_pieces.ensures in
     let files = settles_files requests history old.files settles in
     let holds = c.in-Ok.ensures.holds tells history.schema (book_of history) settles.stands.lawful.schema files in
-    run_during S.tells requests c.run_pieces.result c.in-Ok.store c.run_pieces.new.store old mid new tells runs history settles holds (c.in-Ok.ensures.keeps.said tells)
-    (c.in-Ok.ensures.during tells history.schema (book_of history) settles.stands.lawful.schema files)
+    whole_during c.args.script.now history old new settles
+    (run_during S.tells requests c.run_pieces.result c.in-Ok.store c.run_pieces.new.store old mid new tells runs history settles holds (c.in-Ok.ensures.keeps.said tells)
+    (c.in-Ok.ensures.during tells history.schema (book_of history) settles.stands.lawful.schema files))
 
 pub returns-in-Ok-clause-damaged : goal.returns-in-Ok-clause-damaged
 returns-in-Ok-clause-damaged g c = λ tells damage is.
@@ -111,7 +113,8 @@ returns-clause-during g c = λ tells history settles.
     let requests = requests_of c.args.script.now in
     let files = settles_files requests history old.files settles in
     untold_during S.tells Still why ends old mid new (ap S.outside) tells (c.in-Err.ensures.damaged tells) (c.in-Err.ensures.keeps.said tells) told history settles _
-    (opening_during requests history old mid settles (c.in-Err.ensures.during tells history.schema (book_of history) settles.stands.lawful.schema files))
+    (whole_during c.args.script.now history old mid settles
+    (opening_during requests history old mid settles (c.in-Err.ensures.during tells history.schema (book_of history) settles.stands.lawful.schema files)))
 
 pub returns-clause-damaged : goal.returns-clause-damaged
 returns-clause-damaged g c = λ tells damage ended.

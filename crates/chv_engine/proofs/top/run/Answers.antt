@@ -6,7 +6,7 @@ use Rattle.chv_site.specs.Outside.{bytes_in}
 use Rattle.chv_engine.specs.Damage.{FirstMeets, IsOpeningDamaged}
 use Rattle.chv_engine.specs.Telling.{TellsOrFails}
 use Rattle.chv_engine.specs.declared.fault.RunFault.{RunFault}
-use Rattle.chv_engine.proofs.EndLemmas.{untouched_during}
+use Rattle.chv_engine.proofs.GuaranteeLemmas.{untouched_whole}
 use Rattle.chv_engine.proofs.top.run.Goals as goal
 
 -- damage that a script meets
@@ -35,14 +35,14 @@ returns-in-Err-Damaged-clause-meets g c = λ tells told short calm line damaged.
 pub returns-in-Err-Failed-clause-during : goal.returns-in-Err-Failed-clause-during
 returns-in-Err-Failed-clause-during g c = λ tells told history settles.
     let S = g.W.Site in
-    untouched_during (requests_of (g.S.Source.left c.args.source.now)) history (S.outside c.args.site.now) settles (g.met.W.Site.only_now c.args.site.now)
+    untouched_whole (g.S.Source.left c.args.source.now) history (S.outside c.args.site.now) settles (g.met.W.Site.only_now c.args.site.now)
 
 pub returns-in-Err-TooLong-clause-during : goal.returns-in-Err-TooLong-clause-during
 returns-in-Err-TooLong-clause-during g c = λ tells told history settles.
     let S = g.W.Site in
-    untouched_during (requests_of (g.S.Source.left c.args.source.now)) history (S.outside c.args.site.now) settles (g.met.W.Site.only_now c.args.site.now)
+    untouched_whole (g.S.Source.left c.args.source.now) history (S.outside c.args.site.now) settles (g.met.W.Site.only_now c.args.site.now)
 
 pub returns-clause-during : goal.returns-clause-during
 returns-clause-during g c = λ tells told history settles.
     let S = g.W.Site in
-    untouched_during (requests_of (g.S.Source.left c.args.source.now)) history (S.outside c.args.site.now) settles (g.met.W.Site.only_now c.args.site.now)
+    untouched_whole (g.S.Source.left c.args.source.now) history (S.outside c.args.site.now) settles (g.met.W.Site.only_now c.args.site.now)
