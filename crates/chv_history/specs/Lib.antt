@@ -4,9 +4,12 @@ pub mod Crashes
 pub mod Events
 pub mod Histories
 pub mod Kept
+pub mod KeptTurns
 pub mod Lives
+pub mod Machine
 pub mod Runs
 pub mod Script
 pub mod Spaced
 pub mod Tasks
 pub mod Told
+pub mod Traces
