@@ -81,27 +81,30 @@ module _ (before rest : List Client) (idle : position has_work before ≡ None) 
   put_is : (old new : Client) → (record { clients = slice_set (before ++ old ∷ rest) number new }) ≡ with_work new
   put_is old new = ap (λ (clients : List Client). record { clients = clients }) (set_at before old rest new number refl)
 
-  -- its deliveries are made one after the other, and the insert is acknowledged
-  abbrev made_events : Plan → Client → History → List Event
-  made_events left work history =
-      map delivery_event left ++ Replied (insert_line number (work.written + written_of left history) (length work.plan - (work.written + written_of left history))) (work.plan ∷ []) false ∷ []
+  -- its deliveries are made one after the other, and the insert is acknowledged, with so many blocks written
+  abbrev made_events : Plan → Plan → ℕ → List Event
+  made_events left plan written = map delivery_event left ++ Replied (insert_line number written (length plan - written)) (plan ∷ []) false ∷ []
 
-  leads_made : (d : Delivery) (left : Plan) (work : Client) (m : Moment) → work.left ≡ d ∷ left
-      → Leads m (with_work work) (made_events (d ∷ left) work m.history) (with_work (record work { left = []; written = work.written + written_of (d ∷ left) m.history }))
+  abbrev LeadsMade : Plan → Client → Moment → ℕ → Type 0
+  LeadsMade left work m written = Leads m (with_work work) (made_events left work.plan written) (with_work (record work { left = []; written = written }))
+
+  leads_made : (d : Delivery) (left : Plan) (work : Client) (m : Moment) → work.left ≡ d ∷ left → LeadsMade (d ∷ left) work m (work.written + written_of (d ∷ left) m.history)
   leads_made d [] work m is =
       let acts = acts_last Next m.history (with_work work) number work (next_is work (ap (λ (l : Plan). has_more l work.asks) is)) d is in
-      subst (λ (c : Control). Leads m (with_work work) (made_events (d ∷ []) work m.history) c) (put_is work (behind_made m.history d [] work)) (leads_acts m (with_work work) _ _ acts)
+      let one : LeadsMade (d ∷ []) work m (work.written + written_by m.history d) =
+      subst (Leads m (with_work work) (made_events (d ∷ []) work.plan (work.written + written_by m.history d))) (put_is work (behind_made m.history d [] work)) (leads_acts m (with_work work) _ _ acts) in
+      let sum : work.written + written_by m.history d ≡ work.written + written_of (d ∷ []) m.history = omega arith in
+      subst (LeadsMade (d ∷ []) work m) sum one
   leads_made d (next ∷ left) work m is =
       let acts = acts_first Next m.history (with_work work) number work (next_is work (ap (λ (l : Plan). has_more l work.asks) is)) d next left is in
       let more = behind_made m.history d (next ∷ left) work in
       let following = happen (delivery_event d) m in
       let one : Leads m (with_work work) (delivery_event d ∷ []) (with_work more) = subst (Leads m (with_work work) (delivery_event d ∷ [])) (put_is work more) (leads_acts m (with_work work) (delivery_event d ∷ []) _ acts) in
-      let others = leads_made next left more following refl in
-      let all = leads-append (delivery_event d ∷ []) (made_events (next ∷ left) more following.history) m (with_work work) (with_work more) (with_work (record more { left = []; written = more.written + written_of (next ∷ left) following.history })) one others in
-      let sum : work.written + written_by m.history d + written_of (next ∷ left) following.history ≡ work.written + written_of (d ∷ (next ∷ left)) m.history = omega arith in
-      subst
-      (λ (written : ℕ). Leads m (with_work work) (map delivery_event (d ∷ (next ∷ left)) ++ Replied (insert_line number written (length work.plan - written)) (work.plan ∷ []) false ∷ []) (with_work (record work { left = []; written = written })))
-      sum all
+      let others : LeadsMade (next ∷ left) more following (more.written + written_of (next ∷ left) following.history) = leads_made next left more following refl in
+      let all : LeadsMade (d ∷ (next ∷ left)) work m (more.written + written_of (next ∷ left) following.history) =
+      leads-append (delivery_event d ∷ []) (made_events (next ∷ left) work.plan (more.written + written_of (next ∷ left) following.history)) m (with_work work) (with_work more) _ one others in
+      let sum : more.written + written_of (next ∷ left) following.history ≡ work.written + written_of (d ∷ (next ∷ left)) m.history = omega arith in
+      subst (LeadsMade (d ∷ (next ∷ left)) work m) sum all
 
   -- a statement is answered: behind it the client has no delivery left, and asks for the rest
   record IsAnswered (m : Moment) (work : Client) (asked : Option Statement) (asks : List (Option Statement)) : Type 0 where
@@ -132,13 +135,9 @@ module _ (before rest : List Client) (idle : position has_work before ≡ None) 
         let acts = acts_planned Next m.history (with_work work) number work turn_is none asked asks are (d ∷ plan) is in
         let more = bringing asks (d ∷ plan) in
         let one : Leads m (with_work work) [] (with_work more) = subst (Leads m (with_work work) []) (put_is work more) (leads_acts m (with_work work) [] _ acts) in
-        let made = leads_made d plan more m refl in
         let after : Client = record more { left = []; written = written_of (d ∷ plan) m.history } in
-        let zero_more : 0 + written_of (d ∷ plan) m.history ≡ written_of (d ∷ plan) m.history = omega arith in
-        let whole : Leads m (with_work more) (insert_events number (d ∷ plan) m.history) (with_work after) =
-        subst
-        (λ (written : ℕ). Leads m (with_work more) (map delivery_event (d ∷ plan) ++ Replied (insert_line number written (length (d ∷ plan) - written)) ((d ∷ plan) ∷ []) false ∷ []) (with_work (record more { left = []; written = written })))
-        zero_more made in
+        let sum : 0 + written_of (d ∷ plan) m.history ≡ written_of (d ∷ plan) m.history = omega arith in
+        let whole : Leads m (with_work more) (insert_events number (d ∷ plan) m.history) (with_work after) = subst (LeadsMade (d ∷ plan) more m) sum (leads_made d plan more m refl) in
         (after, refl, refl, leads-append [] (insert_events number (d ∷ plan) m.history) m (with_work work) (with_work more) (with_work after) one whole)
 
     by_task : (task : Result Task Refusal) → answer_in m.history (with_work work) asked ≡ task → IfOk task TaskBrings → AnswersAs task

@@ -151,8 +151,7 @@ module _ (done : List Event) (m : Moment) (control : Control) (made : AreMade do
       → answer_in m.history control asked ≡ task → BringsNothing task → Stays (answer_events client task m.history) (with_client control client (asking asks))
   stays_answers client work asked asks task at none asks_are is nothing =
       let allowed : IfOk task (TaskAllowed m.history) =
-      subst (λ (t : Result Task Refusal). IfOk t (TaskAllowed m.history)) is (allowed_ask done m control made going work asked asks (at_client done m control made going client work at) asks_are) in
-      (
+      subst (λ (t : Result Task Refusal). IfOk t (TaskAllowed m.history)) is (allowed_ask done m control made going work asked asks (at_client done m control made going client work at) asks_are) in (
         lawful_answer client task done m (sound_by task m.history allowed nothing) lawful,
         room_answered client task m control (with_client control client (asking asks)) nothing (none_left control client work (asking asks) at none refl) room,
       )

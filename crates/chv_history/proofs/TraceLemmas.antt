@@ -42,8 +42,7 @@ module _ (m : Moment) (control : Control) (none : first_with_work control ≡ No
   nothing_next (suc rest) =
       let acts = acts_none Next m.history control (client_of-none control none) in
       let more = nothing_next rest in
-      let next : behind (act_events Next m.history control) m ≡ m = ap (λ (events : List Event). behind events m) acts.events_are in
-      (
+      let next : behind (act_events Next m.history control) m ≡ m = ap (λ (events : List Event). behind events m) acts.events_are in (
         ap₂ (λ (xs ys : List Event). xs ++ ys) acts.events_are (ap₂ (λ (n : Moment) (c : Control). turns_events (replicate rest Next) n c) next acts.control_is ∙ more.0),
         ap₂ (λ (n : Moment) (c : Control). turns_control (replicate rest Next) n c) next acts.control_is ∙ more.1,
       )
@@ -215,9 +214,11 @@ rest_exists turns m control =
     let next = behind (turns_events turns m control) m in
     let after = turns_control turns m control in
     let ends = ends_all (suc (length (statements_left after))) next after (omega arith) in
-    let all = turns ++ replicate ends.0 Next in
-    (turns_events all m control, record {
-      rest = ends.0;
-      is = refl;
-      ends = subst (λ (c : Control). first_with_work c ≡ None) (sym (turns_control-append turns (replicate ends.0 Next) m control)) ends.1;
-    })
+    let all = turns ++ replicate ends.0 Next in (
+      turns_events all m control,
+      record {
+        rest = ends.0;
+        is = refl;
+        ends = subst (λ (c : Control). first_with_work c ≡ None) (sym (turns_control-append turns (replicate ends.0 Next) m control)) ends.1;
+      },
+    )
