@@ -1,6 +1,6 @@
 -- With no list of turns a run answers its requests one after the other.
 use Rattle.std.proofs.Common.{◌≡◌, ℕ, zero, suc, ◌+◌, ◌-◌, ◌<◌, ◌≤◌, Bool, true, false, cond, ◌==◌, List, [], ◌∷◌, ◌++◌, length, map, get_or, slice_get, slice_set, Option, None, Some, Result, Ok, Err, IfOk, All, refl, sym, add-zero, ap, ap₂, subst, subst₂, ◌∙◌, arith, append_assoc}
-use Rattle.std.specs.List.{filter, flat_map, position, range_with_len}
+use Rattle.std.specs.List.{flat_map, position, range_with_len}
 use Rattle.std.proofs.Math.Seq.{take-append_seam}
 use Rattle.std.proofs.lemmas.Bool.{eqb-true}
 use Rattle.std.proofs.lemmas.List.{append-nil, get_or-append-add, length-append, map-append, set_at}
@@ -15,8 +15,8 @@ use Rattle.chv_query.proofs.RunLemmas.{none-more, position-first}
 use Rattle.chv_text.specs.Replies.{insert_line}
 use Rattle.chv_history.specs.Events.{Event, Replied, Plan, Moment, begins, behind, happen}
 use Rattle.chv_history.specs.Histories.{History}
-use Rattle.chv_history.specs.Machine.{Of, Next, Client, Control, answer_in, asking, client_of, deliveries_left, first_with_work, has_more, has_work, with_planned, written_by}
-use Rattle.chv_history.specs.Runs.{answer_events, delivered, delivery_event, entries_in, insert_events, request_events, run_events, written_of}
+use Rattle.chv_history.specs.Machine.{Next, Client, Control, answer_in, asking, client_of, deliveries_left, first_with_work, has_more, has_work, with_planned, written_by}
+use Rattle.chv_history.specs.Runs.{answer_events, delivery_event, entries_in, insert_events, request_events, run_events, written_of}
 use Rattle.chv_history.specs.Script.{Request, from_client, of_client, request_of, requests_in, requests_of}
 use Rattle.chv_history.specs.Tasks.{Task, Bring, Make, TellParts, TellRows, deliveries_to, task_of}
 use Rattle.chv_history.specs.Traces.{IsRest, IsTrace, asks_in, control_in}

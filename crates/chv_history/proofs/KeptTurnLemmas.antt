@@ -1,18 +1,16 @@
 -- What is held stays that of the history over turns, which refuse a statement as what is held says.
-use Rattle.std.proofs.Common.{◌≡◌, inl, inr, ℕ, ◌+◌, ◌-◌, ◌≤◌, Bool, true, false, ◌||◌, if◌then◌else◌, List, [], ◌∷◌, ◌++◌, length, replicate, Option, None, Some, Result, Ok, Err, slice_get, All, refl, sym, ap, ap₂, subst, ◌∙◌, arith}
+use Rattle.std.proofs.Common.{◌≡◌, ℕ, ◌+◌, ◌-◌, ◌≤◌, Bool, true, false, ◌||◌, if◌then◌else◌, List, [], ◌∷◌, ◌++◌, length, replicate, Option, None, Some, Result, Ok, Err, slice_get, All, refl, sym, ap, subst, ◌∙◌, arith}
 use Rattle.std.specs.List.{list_any}
-use Rattle.std.proofs.lemmas.List.Elements.{All-head, All-weaker}
+use Rattle.std.proofs.lemmas.List.Elements.{All-head}
 use Rattle.chv_ast.specs.declared.refusal.Refusal.{Refusal}
 use Rattle.chv_ast.specs.declared.statement.Statement.{Statement}
 use Rattle.chv_catalog.specs.Schemas.{Catalog}
 use Rattle.chv_catalog.specs.declared.table_def.TableDef.{TableDef}
 use Rattle.chv_query.specs.Accepted.{IsSchema, catalog_of, tables_of}
-use Rattle.chv_query.specs.Arrivals.{Arrival}
 use Rattle.chv_query.specs.Plans.{Delivery}
 use Rattle.chv_query.proofs.ArrivalLemmas.{ArrivesIn}
 use Rattle.chv_sip.specs.BlockIds.{id_eq, last_ids}
-use Rattle.chv_sip.specs.declared.block_id.BlockId.{BlockId}
-use Rattle.chv_history.specs.Events.{Event, Plan, Moment, begins, behind, happen}
+use Rattle.chv_history.specs.Events.{Event, Plan, Moment, begins, behind}
 use Rattle.chv_history.specs.Histories.{History, ids_in, window_at, window_in}
 use Rattle.chv_history.specs.Kept.{Kept, IsKeptOf, IsRefused, entries_kept, kept_delivery}
 use Rattle.chv_history.specs.KeptTurns.{IsRefusedBy, IsStatementRefused, IsTurnRefused, RunRefuses, TurnsRefuse, answer_kept, kept_by, kept_statement, kept_taken, kept_turn, kept_turns, left_by, left_turns, written_kept}
@@ -21,10 +19,10 @@ use Rattle.chv_history.specs.Runs.{delivered, entries_in}
 use Rattle.chv_history.specs.Tasks.{Task, Bring, Make, TellParts, TellRows, deliveries_to, task_of}
 use Rattle.chv_history.specs.Traces.{IsTrace, control_in}
 use Rattle.chv_history.proofs.CommitLemmas.{is_skipped}
-use Rattle.chv_history.proofs.KeptLemmas.{Agree, MarksAnswer, kept_agrees, kept_answered, kept_delivered, kept_tables, refused_answered, task_agrees}
+use Rattle.chv_history.proofs.KeptLemmas.{Agree, kept_agrees, kept_answered, kept_delivered, kept_tables, refused_answered, task_agrees}
 use Rattle.chv_history.proofs.LeftLemmas.{behind-append}
 use Rattle.chv_history.proofs.LookupLemmas.{AreFilling, schema-filling, table_at}
-use Rattle.chv_history.proofs.MadeLemmas.{AreGoing, AreMade, IsMade, at_client, known_table, made_kept, made_none}
+use Rattle.chv_history.proofs.MadeLemmas.{AreGoing, AreMade, at_client, known_table, made_kept, made_none}
 use Rattle.chv_history.proofs.RequestLemmas.{or_assoc, or_false}
 use Rattle.chv_history.proofs.StartLemmas.{script_going}
 use Rattle.chv_history.proofs.TurnLemmas.{whose, with_client}

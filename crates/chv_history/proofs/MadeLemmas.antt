@@ -1,5 +1,5 @@
 -- What becomes of the deliveries of all clients' inserts: each that is made is delivered, was brought, and arrives in its table.
-use Rattle.std.proofs.Common.{◌≡◌, ℕ, ◌+◌, ◌-◌, ◌≤◌, Bool, true, false, List, [], ◌∷◌, ◌++◌, length, Option, Some, Result, Ok, Err, IfOk, All, Contains, slice_get, ◌==◌, eq-eqb, refl, sym, ap, subst, ◌∙◌, arith, append_assoc}
+use Rattle.std.proofs.Common.{◌≡◌, ℕ, ◌+◌, ◌-◌, ◌≤◌, Bool, true, false, List, [], ◌∷◌, ◌++◌, length, Option, Some, Result, Ok, Err, IfOk, All, Contains, slice_get, ◌==◌, eq-eqb, refl, sym, subst, arith}
 use Rattle.std.proofs.lemmas.List.{append-nil}
 use Rattle.std.proofs.lemmas.List.Elements.{All-append, All-cons, All-head, All-nil, All-set, All-tail, All-weaker, Contains-append_left, Contains-append_right, Contains-push}
 use Rattle.std.proofs.lemmas.Option.{slice_get_within}
@@ -16,11 +16,11 @@ use Rattle.chv_query.proofs.ArrivalLemmas.{ArrivesIn, planned-arrives}
 use Rattle.chv_query.proofs.GrowthLemmas.{All-at}
 use Rattle.chv_text.specs.Replies.{insert_line, ok_line, refused_line}
 use Rattle.chv_history.specs.Acknowledged.{IsDelivered, IsHeld, brought_by}
-use Rattle.chv_history.specs.Events.{Event, Created, Committed, Replied, Plan, Moment, begins, behind, happen}
+use Rattle.chv_history.specs.Events.{Event, Created, Committed, Replied, Plan, Moment, begins, happen}
 use Rattle.chv_history.specs.Histories.{History, book_of}
 use Rattle.chv_history.specs.Machine.{Turn, Client, Control, act_control, act_events, answer_in, asking, end_events, with_planned, written_by}
-use Rattle.chv_history.specs.Runs.{answer_events, delivered, delivery_event, entries_in, task_events}
-use Rattle.chv_history.specs.Tasks.{Task, Bring, Make, TellParts, TellRows, has_room, task_of}
+use Rattle.chv_history.specs.Runs.{answer_events, delivery_event, entries_in, task_events}
+use Rattle.chv_history.specs.Tasks.{Task, Bring, Make, TellParts, TellRows, task_of}
 use Rattle.chv_history.specs.Told.{parts_text, query_text, table_rows}
 use Rattle.chv_history.proofs.AcknowledgedLemmas.{Holding, delivered_behind, delivered_new}
 use Rattle.chv_history.proofs.CommitLemmas.{schema-with_commit}

@@ -1,8 +1,8 @@
 -- What an INSERT with a row brings: one delivery at least.
-use Rattle.std.proofs.Common.{◌≡◌, ◌≤◌, ◌||◌, ◌++◌, ℕ, List, [], ◌∷◌, length, Option, None, Some, Result, Ok, IfOk, nat_lt, subst, ap, arith, length-append}
+use Rattle.std.proofs.Common.{◌≡◌, ◌≤◌, ◌||◌, ℕ, List, [], ◌∷◌, length, Option, None, Some, Result, Ok, IfOk, nat_lt, subst, arith}
 use Rattle.std.specs.List.{list_any}
 use Rattle.std.proofs.lemmas.Bool.{ltb-false, or_parts}
-use Rattle.chv_ast.specs.Formed.{EachOfSome, FormedLiteral, WellFormed}
+use Rattle.chv_ast.specs.Formed.{EachOfSome, FormedLiteral}
 use Rattle.chv_ast.specs.declared.expr.Literal.{Literal}
 use Rattle.chv_ast.specs.declared.refusal.Refusal.{Refusal}
 use Rattle.chv_ast.specs.declared.refusal.Refusal.TheVariants.{UnknownColumn, NameTaken, TypeMismatch, DivisionByZero, LimitPassed}

@@ -1,5 +1,5 @@
 -- A history stays lawful in turns, since there is room for the deliveries that all clients have left.
-use Rattle.std.proofs.Common.{◌≡◌, ◌≢◌, inl, inr, ℕ, suc, ◌+◌, ◌≤◌, Bool, true, false, not, nat_lt, List, [], ◌∷◌, ◌++◌, length, Option, Some, Result, Ok, Err, IfOk, All, slice_get, refl, sym, ap, subst, arith}
+use Rattle.std.proofs.Common.{◌≡◌, inl, inr, ℕ, ◌+◌, ◌≤◌, Bool, true, not, nat_lt, List, [], ◌∷◌, ◌++◌, length, Option, Some, Result, Ok, Err, IfOk, All, slice_get, refl, sym, ap, subst, arith}
 use Rattle.std.specs.List.{list_all}
 use Rattle.std.proofs.lemmas.Bool.{and_parts, cases_eq, ltb-false, not-true}
 use Rattle.chv_ast.specs.declared.refusal.Refusal.{Refusal}
@@ -7,11 +7,10 @@ use Rattle.chv_ast.specs.declared.statement.Statement.{Statement}
 use Rattle.chv_catalog.specs.declared.definition.Definition.{Definition}
 use Rattle.chv_catalog.specs.declared.definition.Definition.TheVariants.{Table, View}
 use Rattle.chv_commit.specs.Replays.{MAX_ENTRIES}
-use Rattle.chv_query.specs.Accepted.{Accepted, catalog_of, tables_of}
+use Rattle.chv_query.specs.Accepted.{catalog_of, tables_of}
 use Rattle.chv_query.specs.Arrivals.{Arrival}
 use Rattle.chv_query.specs.Plans.{Delivery}
 use Rattle.chv_query.proofs.ArrivalLemmas.{ArrivesIn}
-use Rattle.chv_text.specs.Replies.{insert_line}
 use Rattle.chv_history.specs.Acknowledged.{AreApart, IsWhole, SameTokenSameBlock}
 use Rattle.chv_history.specs.Events.{Event, Plan, Moment, begins, behind, happen}
 use Rattle.chv_history.specs.Histories.{History, IsLawful, with_accepted, with_none}

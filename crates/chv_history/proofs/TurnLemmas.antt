@@ -1,6 +1,6 @@
 -- What a turn does, case by case.
 use Rattle.std.proofs.Common.{◌≡◌, ℕ, zero, suc, ◌+◌, ◌-◌, Bool, true, false, nat_eq, List, [], ◌∷◌, ◌++◌, length, Option, None, Some, Result, Ok, Err, slice_get, slice_set, get_or, refl, sym, ap, subst, ◌∙◌, arith}
-use Rattle.std.specs.List.{filter, flat_map, position}
+use Rattle.std.specs.List.{filter, flat_map}
 use Rattle.std.proofs.lemmas.List.{length-append}
 use Rattle.std.proofs.lemmas.List.Elements.{filter-append}
 use Rattle.std.proofs.lemmas.List.Quantifiers.{position-Some}
@@ -15,7 +15,7 @@ use Rattle.chv_query.specs.Queries.{Asked, divides}
 use Rattle.chv_text.specs.Replies.{insert_line, ok_line, refused_line}
 use Rattle.chv_history.specs.Events.{Event, Created, Replied, Plan}
 use Rattle.chv_history.specs.Histories.{History, book_of}
-use Rattle.chv_history.specs.Machine.{Turn, Of, Next, Client, Control, act_control, act_events, answer_in, asking, behind_answer, behind_delivery, behind_statement, behind_turn, client_at, client_of, control_by, deliveries_left, end_events, events_by, first_with_work, has_work, numbered, statement_events, taken_events, turn_events, written_by}
+use Rattle.chv_history.specs.Machine.{Turn, Of, Next, Client, Control, act_control, act_events, answer_in, asking, behind_answer, behind_delivery, behind_statement, client_at, client_of, control_by, deliveries_left, end_events, events_by, first_with_work, has_work, numbered, statement_events, taken_events, turn_events, written_by}
 use Rattle.chv_history.specs.Runs.{answer_events, delivery_event}
 use Rattle.chv_history.specs.Tasks.{Task, Bring, Make, TellParts, TellRows, deliveries_to}
 use Rattle.chv_history.specs.Told.{parts_text, query_text, table_rows}

@@ -1,5 +1,5 @@
 -- What turns do with the numbers that a run holds of its tables, whatever the files hold.
-use Rattle.std.specs.Prelude.{ℕ, ◌≡◌, ◌++◌, Bool, false, ◌||◌, List, [], ◌∷◌, if◌then◌else◌, replicate, slice_set, Option, None, Some, Result, Ok, Err}
+use Rattle.std.specs.Prelude.{ℕ, ◌≡◌, ◌++◌, Bool, false, ◌||◌, List, [], ◌∷◌, if◌then◌else◌, replicate, slice_set, Option, None, Some, Result, Ok}
 use Rattle.std.specs.List.{list_any}
 use Rattle.chv_ast.specs.declared.refusal.Refusal.{Refusal}
 use Rattle.chv_ast.specs.declared.statement.Statement.{Statement}
