@@ -23,7 +23,7 @@ use Rattle.chv_history.specs.Traces.{IsRest, IsTrace, asks_in, control_in}
 use Rattle.chv_history.proofs.LeftLemmas.{behind-append}
 use Rattle.chv_history.proofs.PlannedLemmas.{TaskBrings, task_brings}
 use Rattle.chv_history.proofs.ScriptLemmas.{IsAskFormed, asks_formed}
-use Rattle.chv_history.proofs.TraceLemmas.{rest_next, rest_none}
+use Rattle.chv_history.proofs.TraceLemmas.{rest_next, rest_none, rest_unique}
 use Rattle.chv_history.proofs.TurnLemmas.{Acts, BringsNothing, acts_first, acts_last, acts_planned, acts_taken, behind_made, bringing, client_of-Next, client_of-there}
 
 -- next come these events, behind which this is what all clients have to do
@@ -221,3 +221,6 @@ trace_in_order script history =
     (in_order_from clients [] (begins history)
     (All-map Rests begin (range_with_len 0 16) (λ k client within. refl))
     (All-map AsksFormed begin (range_with_len 0 16) (λ k client within. asks_formed script (get_or (range_with_len 0 16) k client))) refl (All-nil Rests))
+
+pub trace_is_run : (script : List ℕ) (history : History) (events : List Event) → IsTrace script [] history events → events ≡ run_events (requests_of script) (begins history)
+trace_is_run script history events trace = rest_unique [] (begins history) (control_in script) events (run_events (requests_of script) (begins history)) trace (trace_in_order script history)

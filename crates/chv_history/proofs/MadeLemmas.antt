@@ -66,10 +66,11 @@ made_happen event done m d schema is = record {
   arrives = arrives_happen event m d schema is.arrives;
 }
 
--- a delivery is made
+-- what arrives does in a table of the catalog
 pub known_table : (catalog : Catalog) (d : Delivery) → ArrivesIn catalog d → (1 ≤ d.table) × (d.table ≤ length catalog.tables)
 known_table catalog d is = (is.numbered, omega (arith, is.numbered, slice_get_within catalog.tables (d.table - 1) is.def is.stands))
 
+-- a delivery is made
 made_new : (done : List Event) (m : Moment) (d : Delivery) → IsSchema m.history.schema → ArrivesIn (catalog_of m.history.schema) d → IsMade (done ++ delivery_event d ∷ []) (happen (delivery_event d) m).history d
 made_new done m d schema is = record {
   delivered = delivered_new d m.history (known_table (catalog_of m.history.schema) d is);
@@ -96,12 +97,12 @@ module _ (event : Event) (done : List Event) (m : Moment) (schema : IsSchema (ha
   abbrev Made : Delivery → Type 0
   Made = IsMade (done ++ event ∷ []) (happen event m).history
 
+  still_made : (plans : List Plan) → All (All (IsMade done m.history)) plans → All (All Made) plans
+  still_made plans made = All-weaker (All (IsMade done m.history)) (All Made) (λ plan. All-weaker (IsMade done m.history) Made (λ d is. made_happen event done m d schema is) plan) plans made
+
   all_made : AreMade done m → All (All Made) (plans_of event) → AreMade (done ++ event ∷ []) (happen event m)
-  all_made made new = (
-    schema,
-    subst (All (All Made)) (sym (acknowledged_happen event m))
-        (All-append (All Made) m.acknowledged (plans_of event) (All-weaker (All (IsMade done m.history)) (All Made) (λ plan. All-weaker (IsMade done m.history) Made (λ d is. made_happen event done m d schema is) plan) m.acknowledged made.1) new),
-  )
+  all_made made new =
+      (schema, subst (All (All Made)) (sym (acknowledged_happen event m)) (All-append (All Made) m.acknowledged (plans_of event) (still_made m.acknowledged made.1) new))
 
   going_one : (work : Client) → IsGoing done m.history work → IsGoing (done ++ event ∷ []) (happen event m).history work
   going_one work is = record {
@@ -126,8 +127,7 @@ go_reply text plans refuses done m control made going new =
     let next = happen event m in
     through-more AreMade AreGoing event [] done m control made
     (through-none AreMade AreGoing (done ++ event ∷ []) next control
-    (all_made event done m made.0 made (All-weaker (All (IsMade done m.history)) (All (IsMade (done ++ event ∷ []) next.history)) (λ plan. All-weaker (IsMade done m.history) (IsMade (done ++ event ∷ []) next.history) (λ d is. made_happen event done m d made.0 is) plan) plans new))
-    (all_going event done m made.0 control going))
+    (all_made event done m made.0 made (still_made event done m made.0 plans new)) (all_going event done m made.0 control going))
 
 go_silent : (text : List ℕ) (refuses : Bool) (done : List Event) (m : Moment) (control : Control) → AreMade done m → AreGoing done m control → Go done m (Replied text [] refuses ∷ []) control
 go_silent text refuses done m control made going = go_reply text [] refuses done m control made going (All-nil (All (IsMade done m.history)))

@@ -1,13 +1,13 @@
 -- What the clients of a script have to do as a run begins, and what holds at each of its moments.
-use Rattle.std.proofs.Common.{◌≡◌, ℕ, List, [], ◌∷◌, ◌++◌, Option, All, get_or, map, refl}
+use Rattle.std.proofs.Common.{◌≡◌, ℕ, List, [], ◌∷◌, ◌++◌, Option, All, get_or, map, replicate, refl, sym, ◌∙◌}
 use Rattle.std.specs.List.{flat_map, range_with_len}
 use Rattle.std.proofs.lemmas.List.Elements.{All-map}
 use Rattle.chv_ast.specs.declared.statement.Statement.{Statement}
 use Rattle.chv_query.specs.Accepted.{IsSchema}
 use Rattle.chv_history.specs.Events.{Event, Moment, begins, behind}
 use Rattle.chv_history.specs.Histories.{History, IsLawful}
-use Rattle.chv_history.specs.Machine.{Turn, Client, asking, deliveries_left, turns_events}
-use Rattle.chv_history.specs.Traces.{asks_in, control_in}
+use Rattle.chv_history.specs.Machine.{Turn, Next, Client, asking, deliveries_left, turns_events}
+use Rattle.chv_history.specs.Traces.{IsTrace, asks_in, control_in}
 use Rattle.chv_history.proofs.MadeLemmas.{AreGoing, AreMade, IsGoing, going_begun, made_kept, made_none}
 use Rattle.chv_history.proofs.RoomLemmas.{LawfulMade, RoomyGoing, lawful_kept, room_none}
 use Rattle.chv_history.proofs.ScriptLemmas.{asks_formed}
@@ -43,3 +43,10 @@ run_made script turns history done left schema split =
 pub run_lawful : (script : List ℕ) (turns : List Turn) (history : History) (done left : List Event) → IsLawful history → turns_events turns (begins history) (control_in script) ≡ done ++ left → LawfulMade done (behind done (begins history))
 run_lawful script turns history done left lawful split =
     turns_behind LawfulMade RoomyGoing lawful_kept turns (begins history) (control_in script) done left (made_none history lawful.schema, lawful) (script_roomy script [] (begins history)) split
+
+-- so it is with the events of a whole run
+pub trace_made : (script : List ℕ) (turns : List Turn) (history : History) (events done left : List Event) → IsSchema history.schema → IsTrace script turns history events → events ≡ done ++ left → AreMade done (behind done (begins history))
+trace_made script turns history events done left schema trace split = run_made script (turns ++ replicate trace.rest Next) history done left schema (sym trace.is ∙ split)
+
+pub trace_lawful : (script : List ℕ) (turns : List Turn) (history : History) (events done left : List Event) → IsLawful history → IsTrace script turns history events → events ≡ done ++ left → LawfulMade done (behind done (begins history))
+trace_lawful script turns history events done left lawful trace split = run_lawful script (turns ++ replicate trace.rest Next) history done left lawful (sym trace.is ∙ split)

@@ -76,7 +76,7 @@ first_works control client first =
 with_client-back : (control : Control) (client : ℕ) (work : Client) → slice_get control.clients client ≡ Some work → with_client control client work ≡ control
 with_client-back control client work is = ap (λ (clients : List Client). record { clients = clients }) (slice_set-back control.clients client work is)
 
--- nobody's turn does nothing
+-- a turn, in a history, with what all clients have to do
 module _ (turn : Turn) (history : History) (control : Control) where
   -- what a turn does: these events, and this is what is to do behind it
   pub record Acts (events : List Event) (after : Control) : Type 0 where
@@ -89,6 +89,7 @@ module _ (turn : Turn) (history : History) (control : Control) where
     control_is = ap (λ (f : Option (ℕ × Client)). control_by f history control) is;
   }
 
+  -- where it is no client's, nothing is done
   pub acts_none : client_of turn control ≡ None → Acts [] control
   acts_none is = acts_by None is
 
