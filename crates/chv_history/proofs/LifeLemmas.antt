@@ -14,17 +14,18 @@ use Rattle.chv_history.specs.Acknowledged.{AreApart, IsWhole, SameTokenSameBlock
 use Rattle.chv_history.specs.Events.{Event, Created, Committed, Replied, Plan, Moment, begins, behind, happen, with_commit, written_in}
 use Rattle.chv_history.specs.Histories.{History, IsLawful, with_accepted}
 use Rattle.chv_history.specs.Lives.{Follow, GainsFew, IsAbsent, IsLife, LifeRun, StandsOnce, StandsOnceAtMost, history_behind, life_events}
-use Rattle.chv_history.specs.Runs.{request_events, run_events}
-use Rattle.chv_history.specs.Script.{Request, IsFormed}
+use Rattle.chv_history.specs.Machine.{Turn, Control, act_control, act_events, turns_events}
 use Rattle.chv_history.specs.Spaced.{KeepApart}
-use Rattle.chv_history.proofs.AcknowledgedLemmas.{FillingHeld, holding_none, holding_request}
+use Rattle.chv_history.specs.Traces.{control_in}
 use Rattle.chv_history.proofs.ArrivingLemmas.{with_none-other}
 use Rattle.chv_history.proofs.CommitLemmas.{arrivals-other, arrivals-with_commit, schema-with_commit}
 use Rattle.chv_history.proofs.LeftLemmas.{behind-append}
-use Rattle.chv_history.proofs.LookupLemmas.{schema-filling}
+use Rattle.chv_history.proofs.MadeLemmas.{made_none}
+use Rattle.chv_history.proofs.RoomLemmas.{LawfulMade, RoomyGoing, lawful_kept, made_whole}
 use Rattle.chv_history.proofs.SpacedLemmas.{contributions_spaced}
-use Rattle.chv_history.proofs.WhileLemmas.{While, while_first, while_last, while_run, while-append}
-use Rattle.chv_history.proofs.WholeLemmas.{Brought, LawfulArriving, arriving_none, arriving_request, brought_none, brought_request, whole_behind}
+use Rattle.chv_history.proofs.StartLemmas.{script_roomy}
+use Rattle.chv_history.proofs.TurnWhileLemmas.{while_turns}
+use Rattle.chv_history.proofs.WhileLemmas.{While, while_first, while_last, while-append}
 
 -- what happens to a history depends on it alone
 history_same : (events : List Event) (m n : Moment) → m.history ≡ n.history → (behind events m).history ≡ (behind events n).history
@@ -33,39 +34,33 @@ history_same (Created accepted ∷ events) m n same = history_same events (happe
 history_same (Committed table arrivals ∷ events) m n same = history_same events (happen (Committed table arrivals) m) (happen (Committed table arrivals) n) (ap (with_commit table arrivals) same)
 history_same (Replied text plans refuses ∷ events) m n same = history_same events (happen (Replied text plans refuses) m) (happen (Replied text plans refuses) n) same
 
--- and so do the events of a run
-run_same : (requests : List Request) (m n : Moment) → m.history ≡ n.history → run_events requests m ≡ run_events requests n
-run_same [] m n same = refl
-run_same (request ∷ requests) m n same =
-    let one = request_events request m.history in
-    let two = request_events request n.history in
-    let first : one ≡ two = ap (request_events request) same in
+-- and so do the events of turns
+turns_same : (turns : List Turn) (m n : Moment) (control : Control) → m.history ≡ n.history → turns_events turns m control ≡ turns_events turns n control
+turns_same [] m n control same = refl
+turns_same (turn ∷ turns) m n control same =
+    let one = act_events turn m.history control in
+    let two = act_events turn n.history control in
+    let first : one ≡ two = ap (λ (h : History). act_events turn h control) same in
     ap₂ (λ (events rest : List Event). events ++ rest) first
-    (run_same requests (behind one m) (behind two n) (history_same one m n same ∙ ap (λ (events : List Event). (behind events n).history) first))
+    (turns_same turns (behind one m) (behind two n) (act_control turn m.history control) (history_same one m n same ∙ ap (λ (events : List Event). (behind events n).history) first)
+    ∙ ap (λ (h : History). turns_events turns (behind two n) (act_control turn h control)) same)
 
-module _ (P : List Event → Moment → Type 0) where
-  -- while some happen
-  while_front : (xs ys done : List Event) (m : Moment) → While P done (xs ++ ys) m → While P done xs m
-  while_front [] ys done m holds = while_first P ys done m holds
-  while_front (x ∷ xs) ys done m holds = (holds.0, while_front xs ys (done ++ x ∷ []) (happen x m) holds.1)
+-- while some events happen
+while_front : (P : List Event → Moment → Type 0) (xs ys done : List Event) (m : Moment) → While P done (xs ++ ys) m → While P done xs m
+while_front P [] ys done m holds = while_first P ys done m holds
+while_front P (x ∷ xs) ys done m holds = (holds.0, while_front P xs ys (done ++ x ∷ []) (happen x m) holds.1)
 
-  -- where it holds while each request is answered, it holds over a life
-  while_life : (Asks : Request → Type 0) → ((request : Request) (done : List Event) (m : Moment) → Asks request → P done m → While P done (request_events request m.history) m)
-      → (runs : List LifeRun) (done : List Event) (m : Moment) → All (λ (run : LifeRun). All Asks run.requests) runs → Follow m.history runs → P done m → While P done (life_events runs) m
-  while_life Asks each [] done m asks follow holds = holds
-  while_life Asks each (run ∷ runs) done m asks follow holds =
-      let Asked : LifeRun → Type 0 = λ r. All Asks r.requests in
-      let all : While P done (run_events run.requests m) m = while_run P Asks each run.requests done m (All-head Asked run runs asks) holds in
-      let split : run_events run.requests m ≡ run.done ++ run.left = run_same run.requests m (begins m.history) refl ∙ follow.0 in
-      let here : While P done run.done m = while_front run.done run.left done m (subst (λ (events : List Event). While P done events m) split all) in
-      let same : history_behind m.history run.done ≡ (behind run.done m).history = history_same run.done (begins m.history) m refl in
-      while-append P run.done (life_events runs) done m here
-      (while_life Asks each runs (done ++ run.done) (behind run.done m) (All-tail Asked run runs asks) (subst (λ (h : History). Follow h runs) same follow.1) (while_last P run.done done m here))
-
-  -- so it holds at its end
-  life_end : (Asks : Request → Type 0) → ((request : Request) (done : List Event) (m : Moment) → Asks request → P done m → While P done (request_events request m.history) m)
-      → (history : History) (runs : List LifeRun) → All (λ (run : LifeRun). All Asks run.requests) runs → Follow history runs → P [] (begins history) → P (life_events runs) (behind (life_events runs) (begins history))
-  life_end Asks each history runs asks follow holds = while_last P (life_events runs) [] (begins history) (while_life Asks each runs [] (begins history) asks follow holds)
+-- over a life, in which each run begins with what its script asks for, each delivery of what is acknowledged is made, in a lawful history
+while_life : (runs : List LifeRun) (done : List Event) (m : Moment) → Follow m.history runs → LawfulMade done m → While LawfulMade done (life_events runs) m
+while_life [] done m follow holds = holds
+while_life (run ∷ runs) done m follow holds =
+    let control = control_in run.script in
+    let all : While LawfulMade done (turns_events run.turns m control) m = while_turns LawfulMade RoomyGoing lawful_kept run.turns done m control holds (script_roomy run.script done m) in
+    let split : turns_events run.turns m control ≡ run.done ++ run.left = turns_same run.turns m (begins m.history) control refl ∙ follow.0 in
+    let here : While LawfulMade done run.done m = while_front LawfulMade run.done run.left done m (subst (λ (events : List Event). While LawfulMade done events m) split all) in
+    let same : history_behind m.history run.done ≡ (behind run.done m).history = history_same run.done (begins m.history) m refl in
+    while-append LawfulMade run.done (life_events runs) done m here
+    (while_life runs (done ++ run.done) (behind run.done m) (subst (λ (h : History). Follow h runs) same follow.1) (while_last LawfulMade run.done done m here))
 
 -- at the end of a life what was acknowledged stands whole, and the history is lawful
 module _ (history : History) (runs : List LifeRun) (life : IsLife history runs) where
@@ -75,19 +70,14 @@ module _ (history : History) (runs : List LifeRun) (life : IsLife history runs) 
   abbrev events : List Event
   events = life_events runs
 
-  life_arriving : LawfulArriving events (behind events first)
-  life_arriving = life_end LawfulArriving IsFormed arriving_request history runs life.formed life.follow (life.lawful, arriving_none first refl)
+  life_made : LawfulMade events (behind events first)
+  life_made = while_last LawfulMade events [] first (while_life runs [] first life.follow (made_none history life.lawful.schema, life.lawful))
 
   pub life_lawful : IsLawful (behind events first).history
-  life_lawful = life_arriving.0
+  life_lawful = life_made.1
 
   pub life_whole : AreApart history events → SameTokenSameBlock history events → All (IsWhole (behind events first).history) (behind events first).acknowledged
-  life_whole apart tokens =
-      let Any : Request → Type 0 = λ request. Unit {0} in
-      let held = life_end FillingHeld Any (λ request done m asks both. holding_request request done m both) history runs (λ k run within. λ j request inside. tt) life.follow
-      (schema-filling history.schema life.lawful.schema, holding_none first refl) in
-      let brought = life_end Brought Any (λ request done m asks is. brought_request request done m is) history runs (λ k run within. λ j request inside. tt) life.follow (brought_none first refl) in
-      whole_behind events history (behind events first) refl apart tokens held.1 brought life_arriving.0 life_arriving.1
+  life_whole apart tokens = made_whole events history (behind events first) refl apart tokens life_made
 
 -- what arrived in a table that stands stays, with more behind it
 pub record Grows (place : ℕ) (def : TableDef) (old new : History) : Type 0 where

@@ -1,5 +1,5 @@
 -- A history stays lawful in a run.
-use Rattle.std.proofs.Common.{◌≡◌, ◌≢◌, inl, inr, ℕ, suc, ◌+◌, ◌-◌, ◌≤◌, Bool, true, false, not, cond, nat_eq, nat_lt, List, [], ◌∷◌, ◌++◌, length, map, Result, Ok, Err, IfOk, All, refl, sym, ap, subst, arith}
+use Rattle.std.proofs.Common.{◌≡◌, ◌≢◌, inl, inr, ℕ, suc, ◌+◌, ◌≤◌, Bool, true, false, not, cond, nat_eq, nat_lt, List, [], ◌∷◌, ◌++◌, length, map, Result, Ok, Err, IfOk, All, refl, sym, ap, subst, arith}
 use Rattle.std.specs.List.{filter, list_all}
 use Rattle.std.proofs.lemmas.Bool.{and_parts, cases_eq, eq-eqb, ltb-false, ne_eqb, not-true}
 use Rattle.std.proofs.lemmas.List.Elements.{All-cons, All-head, All-nil, All-tail, All-weaker}
@@ -28,18 +28,18 @@ pub record Fits (plan : Plan) (history : History) (d : Delivery) : Type 0 where
   pub room : entries_in history d.table + deliveries_to d.table plan ≤ MAX_ENTRIES
 
 -- one delivery more is counted where it goes to the table
-deliveries_here : (table : ℕ) (d : Delivery) (plan : Plan) → d.table ≡ table → deliveries_to table (d ∷ plan) ≡ suc (deliveries_to table plan)
+pub deliveries_here : (table : ℕ) (d : Delivery) (plan : Plan) → d.table ≡ table → deliveries_to table (d ∷ plan) ≡ suc (deliveries_to table plan)
 deliveries_here table d plan same =
     let kept = filter (λ (other : Delivery). nat_eq other.table table) plan in
     ap (λ (b : Bool). length (cond b (d ∷ kept) kept)) (eq-eqb d.table table same)
 
-deliveries_other : (table : ℕ) (d : Delivery) (plan : Plan) → d.table ≢ table → deliveries_to table (d ∷ plan) ≡ deliveries_to table plan
+pub deliveries_other : (table : ℕ) (d : Delivery) (plan : Plan) → d.table ≢ table → deliveries_to table (d ∷ plan) ≡ deliveries_to table plan
 deliveries_other table d plan other =
     let kept = filter (λ (e : Delivery). nat_eq e.table table) plan in
     ap (λ (b : Bool). length (cond b (d ∷ kept) kept)) (ne_eqb d.table table other)
 
 -- a delivery adds one entry at most
-one_more : (d : Delivery) (history : History) → entries_in (delivered d history) d.table ≤ entries_in history d.table + 1
+pub one_more : (d : Delivery) (history : History) → entries_in (delivered d history) d.table ≤ entries_in history d.table + 1
 one_more d history =
     let more = entries_in-commit d.table (d.entry ∷ []) history in
     elim (is_skipped d.table d.entry history) as (λ (b : Bool). is_skipped d.table d.entry history ≡ b → entries_in (delivered d history) d.table ≤ entries_in history d.table + 1) [
@@ -134,7 +134,7 @@ lawful_task client (Bring plan) done m sound lawful =
 lawful_task client (TellRows query) done m sound lawful = (lawful, lawful)
 lawful_task client (TellParts table def) done m sound lawful = (lawful, lawful)
 
-lawful_answer : (client : ℕ) (task : Result Task Refusal) (done : List Event) (m : Moment) → IfOk task (TaskSound m.history) → IsLawful m.history → While Lawful done (answer_events client task m.history) m
+pub lawful_answer : (client : ℕ) (task : Result Task Refusal) (done : List Event) (m : Moment) → IfOk task (TaskSound m.history) → IsLawful m.history → While Lawful done (answer_events client task m.history) m
 lawful_answer client (Ok task) done m sound lawful = lawful_task client task done m sound lawful
 lawful_answer client (Err refuses) done m sound lawful = (lawful, lawful)
 

@@ -55,7 +55,7 @@ fresh_among window ids arrivals a is =
     (All-fresh (Contains arrivals) (λ (b : Arrival). b.id) window ids arrivals (All-contains_itself arrivals)) is
 
 -- what a commit brings to a table, where it is its own
-brought_here : (b : Bool) (old arrivals brought : List Arrival) (a : Arrival) → Contains (old ++ (arrivals ++ brought)) a → b ≡ true → Contains (old ++ (if b then arrivals ++ brought else brought)) a
+pub brought_here : (b : Bool) (old arrivals brought : List Arrival) (a : Arrival) → Contains (old ++ (arrivals ++ brought)) a → b ≡ true → Contains (old ++ (if b then arrivals ++ brought else brought)) a
 brought_here true old arrivals brought a is same = is
 brought_here false old arrivals brought a is same = absurd (cc same)
 
@@ -112,7 +112,7 @@ arrived_known table (Committed other arrivals ∷ events) m a is =
 arrived_known table (Replied text plans refuses ∷ events) m a is = arrived_known table events (happen (Replied text plans refuses) m) a is
 
 -- what is brought by some events and then by others
-brought_by-append : (table : ℕ) (xs ys : List Event) → brought_by table (xs ++ ys) ≡ brought_by table xs ++ brought_by table ys
+pub brought_by-append : (table : ℕ) (xs ys : List Event) → brought_by table (xs ++ ys) ≡ brought_by table xs ++ brought_by table ys
 brought_by-append table [] ys = refl
 brought_by-append table (Created accepted ∷ xs) ys = brought_by-append table xs ys
 brought_by-append table (Committed other arrivals ∷ xs) ys =
@@ -199,7 +199,7 @@ abbrev pub Arriving : List Event → Moment → Type 0
 Arriving done m = All (All (ArrivesIn (catalog_of m.history.schema))) m.acknowledged
 
 -- also where a table or a view is made
-arrives_more : (schema : List Accepted) (accepted : Accepted) → IsSchema (schema ++ accepted ∷ []) → (d : Delivery) → ArrivesIn (catalog_of schema) d → ArrivesIn (catalog_of (schema ++ accepted ∷ [])) d
+pub arrives_more : (schema : List Accepted) (accepted : Accepted) → IsSchema (schema ++ accepted ∷ []) → (d : Delivery) → ArrivesIn (catalog_of schema) d → ArrivesIn (catalog_of (schema ++ accepted ∷ [])) d
 arrives_more schema accepted lawful d is = record {
   def = is.def;
   numbered = is.numbered;

@@ -5,9 +5,12 @@ pub mod Events
 pub mod Guarantees
 pub mod Histories
 pub mod Kept
+pub mod KeptTurns
 pub mod Lives
+pub mod Machine
 pub mod Runs
 pub mod Script
 pub mod Spaced
 pub mod Tasks
 pub mod Told
+pub mod Traces

@@ -6,12 +6,13 @@ use Rattle.chv_query.specs.Accepted.{tables_of}
 use Rattle.chv_query.specs.Arrivals.{Arrival, Contribution}
 use Rattle.chv_history.specs.Events.{Event, begins, behind}
 use Rattle.chv_history.specs.Histories.{History, IsLawful}
-use Rattle.chv_history.specs.Runs.{run_events}
-use Rattle.chv_history.specs.Script.{Request, AreFormed}
+use Rattle.chv_history.specs.Machine.{Turn, turns_events}
+use Rattle.chv_history.specs.Traces.{control_in}
 
--- a run: what is asked for, the events that are done, and those that are left where it ends early
+-- a run: its script and its turns, the events that are done, and those that are left where it ends early
 pub record LifeRun : Type 0 where
-  pub requests : List Request
+  pub script : List ℕ
+  pub turns : List Turn
   pub done : List Event
   pub left : List Event
 
@@ -22,16 +23,15 @@ history_behind history events = (behind events (begins history)).history
 -- each run begins with the history that the one before left
 abbrev pub Follow : History → List LifeRun → Type 0
 Follow history [] = Unit {0}
-Follow history (run ∷ runs) = (run_events run.requests (begins history) ≡ run.done ++ run.left) × Follow (history_behind history run.done) runs
+Follow history (run ∷ runs) = (turns_events run.turns (begins history) (control_in run.script) ≡ run.done ++ run.left) × Follow (history_behind history run.done) runs
 
 -- the events of a life: those that are done in each run
 abbrev pub life_events : List LifeRun → List Event
 life_events runs = flat_map (λ (run : LifeRun). run.done) runs
 
--- a life begins with a lawful history, and its requests are well formed. At each of its moments a life may end
+-- a life begins with a lawful history. At each of its moments a life may end
 pub record IsLife (history : History) (runs : List LifeRun) : Type 0 where
   pub lawful : IsLawful history
-  pub formed : All (λ (run : LifeRun). AreFormed run.requests) runs
   pub follow : Follow history runs
 
 -- a table stands, and gains no more entries than its window has ids, and one

@@ -1,5 +1,5 @@
 // What holds of all histories, as laws on the definitions.
-ghost use Rattle.std.specs.Prelude.{◌≡◌, ◌⊎◌, ◌+◌, ◌≤◌, ◌∷◌, ◌++◌, Bool, List, ℕ, length};
+ghost use Rattle.std.specs.Prelude.{◌≡◌, ◌⊎◌, ◌+◌, ◌≤◌, ◌∷◌, ◌++◌, Bool, List, [], None, Some, ℕ, length};
 ghost use Rattle.std.specs.List.{All, Contains};
 ghost use Rattle.chv_catalog.specs.declared.table_def.TableDef.{TableDef};
 ghost use Rattle.chv_query.specs.Accepted.{IsSchema};
@@ -11,10 +11,13 @@ ghost use Rattle.chv_history.specs.Crashes.{IsLeftBy};
 ghost use Rattle.chv_history.specs.Events.{Event, Replied, Plan, Moment, begins, behind};
 ghost use Rattle.chv_history.specs.Histories.{History, IsLawful};
 ghost use Rattle.chv_history.specs.Kept.{Kept, IsKeptOf, Refuses, kept_behind};
+ghost use Rattle.chv_history.specs.KeptTurns.{RunRefuses, TurnsRefuse, kept_turns, left_turns};
 ghost use Rattle.chv_history.specs.Lives.{GainsFew, IsAbsent, IsLife, LifeRun, StandsOnce, StandsOnceAtMost, history_behind, life_events};
+ghost use Rattle.chv_history.specs.Machine.{Turn, Of, Control, act_control, act_events, first_with_work, turns_control, turns_events};
 ghost use Rattle.chv_history.specs.Runs.{run_events};
-ghost use Rattle.chv_history.specs.Script.{Request, AreFormed};
+ghost use Rattle.chv_history.specs.Script.{Request, AreFormed, requests_of};
 ghost use Rattle.chv_history.specs.Spaced.{AreSpaced, ContributionsAreSpaced};
+ghost use Rattle.chv_history.specs.Traces.{IsRest, IsTrace, control_in};
 
 /// An insert whose reply was said to its end is acknowledged at the moment that a crash leaves, or its reply,
 /// which changes no history, is the very next event.
@@ -25,10 +28,31 @@ pub fn law_acknowledged()
         → IsAcknowledged plans (behind left.done first) ⊎ (left.left ≡ Replied line plans refuses ∷ ys) }
 {}
 
+/// A run of a script with a list of turns has one list of events: those of its turns, and then, while some client has something
+/// to do, those of the first that has. With no turns listed they are those of its requests, which are answered one after the other,
+/// client by client.
+///
+/// So the events of each run are those of a list of turns, and what is said of all lists of turns is said of it.
+pub fn law_trace()
+    ensures unique { (turns : List Turn) (m : Moment) (control : Control) (a b : List Event) → IsRest turns m control a → IsRest turns m control b → a ≡ b }
+    ensures exists { (turns : List Turn) (m : Moment) (control : Control) → (events : List Event) × IsRest turns m control events }
+    ensures listed { (turn : Turn) (turns : List Turn) (m : Moment) (control : Control) (later : List Event)
+        → IsRest turns (behind (act_events turn m.history control) m) (act_control turn m.history control) later
+        → IsRest (turn ∷ turns) m control (act_events turn m.history control ++ later) }
+    ensures next { (client : ℕ) (m : Moment) (control : Control) (later : List Event) → first_with_work control ≡ Some client
+        → IsRest [] (behind (act_events (Of client) m.history control) m) (act_control (Of client) m.history control) later
+        → IsRest [] m control (act_events (Of client) m.history control ++ later) }
+    ensures ends { (m : Moment) (control : Control) → first_with_work control ≡ None → IsRest [] m control [] }
+    ensures in_order { (script : List ℕ) (history : History) → IsTrace script [] history (run_events (requests_of script) (begins history)) }
+{}
+
 /// At each moment of a run over a schema the history holds every insert that the run has acknowledged: each of its deliveries has
 /// an entry with its id.
 pub fn law_held()
-    ensures { (requests : List Request) (history : History) (done left : List Event) → IsSchema history.schema → run_events requests (begins history) ≡ done ++ left
+    ensures requests { (requests : List Request) (history : History) (done left : List Event) → IsSchema history.schema → run_events requests (begins history) ≡ done ++ left
+        → All (IsHeld (behind done (begins history)).history) (behind done (begins history)).acknowledged }
+    ensures turns { (script : List ℕ) (turns : List Turn) (history : History) (done left : List Event) → IsSchema history.schema
+        → turns_events turns (begins history) (control_in script) ≡ done ++ left
         → All (IsHeld (behind done (begins history)).history) (behind done (begins history)).acknowledged }
 {}
 
@@ -41,6 +65,9 @@ pub fn law_whole()
     ensures blocks { (requests : List Request) (history : History) (done left : List Event) → IsLawful history → AreFormed requests
         → run_events requests (begins history) ≡ done ++ left → AreApart history done → SameTokenSameBlock history done
         → All (IsWhole (behind done (begins history)).history) (behind done (begins history)).acknowledged }
+    ensures turns { (script : List ℕ) (turns : List Turn) (history : History) (done left : List Event) → IsLawful history
+        → turns_events turns (begins history) (control_in script) ≡ done ++ left → AreApart history done → SameTokenSameBlock history done
+        → All (IsWhole (behind done (begins history)).history) (behind done (begins history)).acknowledged }
 {}
 
 /// Behind any events of a spaced history each one is spaced: no block stands twice within its table's window. And behind the
@@ -51,9 +78,12 @@ pub fn law_spaced()
         → run_events requests (begins history) ≡ done ++ left → IsLawful (behind done (begins history)).history }
     ensures contributions { (requests : List Request) (history : History) (done left : List Event) → IsLawful history → AreFormed requests
         → run_events requests (begins history) ≡ done ++ left → ContributionsAreSpaced (behind done (begins history)).history }
+    ensures turns { (script : List ℕ) (turns : List Turn) (history : History) (done left : List Event) → IsLawful history
+        → turns_events turns (begins history) (control_in script) ≡ done ++ left
+        → IsLawful (behind done (begins history)).history × ContributionsAreSpaced (behind done (begins history)).history }
 {}
 
-/// Over a life, in which each run may end early: where a contribution is absent from a table at some moment, and the table has
+/// Over a life of runs with turns, in which each may end early: where a contribution is absent from a table at some moment, and the table has
 /// gained no more entries at the end than its window has ids, and one, it stands there once at most. Where what goes by different
 /// things has different ids and one token and number is that of one block, what is acknowledged stands whole, and there once.
 pub fn law_retry()
@@ -74,7 +104,13 @@ pub fn law_retry()
 
 /// Where what is held is that of a history over a schema, it stays so in a run, which refuses a statement as what is held says.
 pub fn law_kept()
-    ensures { (requests : List Request) (kept : Kept) (history : History) → IsSchema history.schema → IsKeptOf kept history
+    ensures requests { (requests : List Request) (kept : Kept) (history : History) → IsSchema history.schema → IsKeptOf kept history
         → IsKeptOf (kept_behind requests kept) (behind (run_events requests (begins history)) (begins history)).history
         × Refuses requests kept (behind (run_events requests (begins history)) (begins history)).refused }
+    ensures turns { (script : List ℕ) (turns : List Turn) (kept : Kept) (history : History) → IsSchema history.schema → IsKeptOf kept history
+        → (left_turns turns kept (control_in script) ≡ turns_control turns (begins history) (control_in script))
+        × IsKeptOf (kept_turns turns kept (control_in script)) (behind (turns_events turns (begins history) (control_in script)) (begins history)).history
+        × TurnsRefuse turns kept (control_in script) (behind (turns_events turns (begins history) (control_in script)) (begins history)).refused }
+    ensures run { (script : List ℕ) (turns : List Turn) (kept : Kept) (history : History) (events : List Event) → IsSchema history.schema → IsKeptOf kept history
+        → IsTrace script turns history events → RunRefuses script turns kept (behind events (begins history)).refused }
 {}

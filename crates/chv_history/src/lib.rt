@@ -3,4 +3,4 @@
 
 mod laws;
 
-pub use laws::{law_acknowledged, law_held, law_kept, law_retry, law_spaced, law_whole};
+pub use laws::{law_acknowledged, law_held, law_kept, law_retry, law_spaced, law_trace, law_whole};

@@ -3,6 +3,8 @@ use Rattle.std.proofs.Common.{refl}
 use Rattle.chv_history.specs.Events.{begins, behind}
 use Rattle.chv_history.proofs.AcknowledgedLemmas.{holding_behind, holding_none}
 use Rattle.chv_history.proofs.LookupLemmas.{schema-filling}
+use Rattle.chv_history.proofs.RoomLemmas.{made_whole}
+use Rattle.chv_history.proofs.StartLemmas.{run_lawful}
 use Rattle.chv_history.proofs.WholeLemmas.{arriving_behind, brought_behind, whole_behind, whole_in_books}
 use Rattle.chv_history.proofs.laws.law_whole.Goals as goal
 
@@ -15,3 +17,7 @@ returns-clause-blocks c = λ requests history done left lawful formed split apar
     let both = arriving_behind requests (begins history) done left lawful formed refl split in
     whole_behind done history (behind done (begins history)) refl apart tokens (holding_behind requests (begins history) done left (schema-filling history.schema lawful.schema) (holding_none (begins history) refl) split)
     (brought_behind requests (begins history) done left refl split) both.0 both.1
+
+pub returns-clause-turns : goal.returns-clause-turns
+returns-clause-turns c = λ script turns history done left lawful split apart tokens.
+    made_whole done history (behind done (begins history)) refl apart tokens (run_lawful script turns history done left lawful split)
