@@ -1,10 +1,11 @@
 -- Whatever a crash within a run leaves, clients can rely on.
 use Rattle.std.proofs.Common.{◌≡◌, inl, inr, ℕ, ◌+◌, ◌≤◌, ◌<◌, Bool, false, List, [], ◌∷◌, ◌++◌, length, take, refl, sym, ap, subst, ◌∙◌, arith, append_assoc}
+use Rattle.std.specs.Prelude.{codes, decimal}
 use Rattle.std.proofs.lemmas.Bool.{cases_lt}
 use Rattle.std.proofs.lemmas.List.{append_cancel_right, length-append, length-take, take_all}
 use Rattle.chv_site.specs.Files.{IsFrontOf}
 use Rattle.chv_site.specs.Images.{Image}
-use Rattle.chv_text.specs.Replies.{insert_line}
+use Rattle.chv_text.specs.Replies.{insert_line, line_to}
 use Rattle.chv_history.specs.Acknowledged.{IsAcknowledged}
 use Rattle.chv_history.specs.Crashes.{IsLeftBy, says_next}
 use Rattle.chv_history.specs.Events.{Event, Created, Committed, Replied, Plan, Moment, begins, behind, happen}
@@ -89,8 +90,12 @@ module _ (events : List Event) (before : List ℕ) (first : Moment) (image : Ima
 ends_some : (line : List ℕ) (byte : ℕ) → 1 ≤ length (line ++ byte ∷ [])
 ends_some line byte = omega (arith, length-append line (byte ∷ []))
 
+line_to-some : (client : ℕ) (text : List ℕ) → 1 ≤ length (line_to client text)
+line_to-some client text = ends_some (codes "@" ++ decimal client ++ codes " " ++ text) 10
+
 insert_line-some : (client written skipped : ℕ) → 1 ≤ length (insert_line client written skipped)
-insert_line-some client written skipped = ends_some _ 10
+insert_line-some client written skipped =
+    line_to-some client (codes "Ok. " ++ decimal written ++ codes " written, " ++ decimal skipped ++ codes " skipped")
 
 -- what the events of a run leave is left whole
 module _ (requests : List Request) (history : History) (lawful : IsLawful history) (formed : AreFormed requests) where
