@@ -83,7 +83,8 @@ module _ (count : ℕ) where
   unfolding offset
   set_offset [] old new place d within kept = absurd (omega arith)
   set_offset (key ∷ keys) old new zero d within kept =
-      let behind : drop count new ≡ drop count old = kept.behind in
+      let start : 0 + count ≡ count = omega arith in
+      let behind : drop count new ≡ drop count old = ap (λ (n : ℕ). drop n new) (sym start) ∙ kept.behind ∙ ap (λ (n : ℕ). drop n old) start in
       ap (λ (tallies : List AnyAgg). record { key = key; tallies = take count new } ∷ groups_of count keys tallies) behind
   set_offset (key ∷ keys) old new (suc place) d within kept =
       let behind : drop (offset count place + count) (drop count new) ≡ drop (offset count place + count) (drop count old) =

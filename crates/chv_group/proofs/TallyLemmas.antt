@@ -216,7 +216,7 @@ values_of-units [] = refl
 values_of-units (call ∷ calls) = ap (λ (values : List Value). unit_value call ∷ values) (values_of-units calls)
 
 -- what calls give of states of which the first are taken out
-pub out-at : (calls : List AggCall) (tallies all : List AnyAgg) (first place : ℕ) (s : AnyAgg) → place < length calls → drop place (part first (length calls) tallies) ≡ drop place all
+out-at : (calls : List AggCall) (tallies all : List AnyAgg) (first place : ℕ) (s : AnyAgg) → place < length calls → drop place (part first (length calls) tallies) ≡ drop place all
     → s ≡ get_or tallies (first + place) s → s ≡ get_or all place s
 out-at calls tallies all first place s within left is =
     is ∙ sym (part-at first (length calls) tallies place s within) ∙ at_drop (part first (length calls) tallies) place s
@@ -224,6 +224,11 @@ out-at calls tallies all first place s within left is =
   where
     at_drop : (xs : List AnyAgg) (n : ℕ) (d : AnyAgg) → get_or xs n d ≡ get_or (drop n xs) 0 d
     at_drop xs n d = ap (λ (k : ℕ). get_or xs k d) (omega arith) ∙ sym (get_or-drop n xs 0 d)
+
+pub out-taken : (calls : List AggCall) (tallies all : List AnyAgg) (first place : ℕ) (s t : AnyAgg) → place < length calls → drop place (part first (length calls) tallies) ≡ drop place all
+    → s ≡ get_or tallies (first + place) s → t ≡ s → t ≡ get_or all place t
+out-taken calls tallies all first place s t within left is same =
+    same ∙ out-at calls tallies all first place s within left is ∙ ap (λ (d : AnyAgg). get_or all place d) (sym same)
 
 pub out-left : (calls : List AggCall) (tallies all : List AnyAgg) (first place : ℕ) (other : AnyAgg) → place < length calls → drop place (part first (length calls) tallies) ≡ drop place all
     → drop (place + 1) (part first (length calls) (set tallies (first + place) other)) ≡ drop (place + 1) all
