@@ -15,11 +15,11 @@ use Rattle.chv_group.proofs.KeyNameLemmas.{is_some-position}
 use Rattle.chv_group.proofs.TallyLemmas.{fed-states_over, states_over-none}
 use Rattle.chv_group.specs.Groups.{TakesArguments, inputs_of}
 use Rattle.chv_group.specs.KeyBytes.{IsHeld, key_bytes}
+use Rattle.chv_group.specs.Keys.{Group}
 use Rattle.chv_group.specs.Takings.{AreOf, IsOverInputs, group_keys, input_keys}
 use Rattle.chv_group.specs.Tallies.{fed, states_over, units}
 use Rattle.chv_group.specs.declared.call.AggCall.{AggCall}
 use Rattle.chv_group.specs.declared.call.Keyed.{Keyed}
-use Rattle.chv_group.specs.declared.key_group.KeyGroup.{KeyGroup}
 use Rattle.chv_types.proofs.MemberLemmas.{HaveSame-append}
 use Rattle.chv_types.specs.Members.{HaveSame}
 use Rattle.chv_types.specs.Names.{place_of}
@@ -54,7 +54,7 @@ inputs_of-same key inputs input apart =
 
 module _ (calls : List AggCall) (inputs : List Keyed) (input : Keyed) where
   -- groups of other keys stay
-  others : (groups : List KeyGroup) → All (λ (key : List Value). same_row input.key key ≡ false) (group_keys groups)
+  others : (groups : List Group) → All (λ (key : List Value). same_row input.key key ≡ false) (group_keys groups)
       → All (IsOverInputs calls inputs) groups → All (IsOverInputs calls (inputs ++ input ∷ [])) groups
   others [] apart all = λ k d within. absurd (omega arith)
   others (group ∷ groups) apart all =
@@ -64,27 +64,27 @@ module _ (calls : List AggCall) (inputs : List Keyed) (input : Keyed) where
       (others groups (All-tail (λ (key : List Value). same_row input.key key ≡ false) group.key (group_keys groups) apart) (All-tail (IsOverInputs calls inputs) group groups all))
 
   -- the group of the input's key takes it
-  own : (old new : KeyGroup) → IsOverInputs calls inputs old → old.key ≡ input.key → new.key ≡ old.key → TakesArguments calls input.args
+  own : (old new : Group) → IsOverInputs calls inputs old → old.key ≡ input.key → new.key ≡ old.key → TakesArguments calls input.args
       → new.tallies ≡ fed calls old.tallies input.args → IsOverInputs calls (inputs ++ input ∷ []) new
   own old new over same kept takes taken =
       taken ∙ ap (λ states. fed calls states input.args) over ∙ fed-states_over calls 0 (inputs_of old.key inputs) input input.args refl takes
       ∙ ap (states_over 0 calls) (sym (inputs_of-more old.key inputs input (sym same))) ∙ ap (λ (key : List Value). states_over 0 calls (inputs_of key (inputs ++ input ∷ []))) (sym kept)
 
   -- where the key of a group is that of an input, the others have other keys
-  turned : (groups : List KeyGroup) (key : List Value) → key ≡ input.key → All (λ (other : List Value). same_row key other ≡ false) (group_keys groups)
+  turned : (groups : List Group) (key : List Value) → key ≡ input.key → All (λ (other : List Value). same_row key other ≡ false) (group_keys groups)
       → All (λ (other : List Value). same_row input.key other ≡ false) (group_keys groups)
   turned groups key same apart = subst (λ (k : List Value). All (λ (other : List Value). same_row k other ≡ false) (group_keys groups)) same apart
 
-  before : (groups : List KeyGroup) (place : ℕ) (d : KeyGroup) (key : List Value) → place < length groups → (get_or groups place d).key ≡ input.key
+  before : (groups : List Group) (place : ℕ) (d : Group) (key : List Value) → place < length groups → (get_or groups place d).key ≡ input.key
       → All (λ (other : List Value). same_row key other ≡ false) (group_keys groups) → same_row input.key key ≡ false
   before groups place d key within same apart =
-      let there : same_row key (get_or groups place d).key ≡ false = All-get_or (λ (group : KeyGroup). same_row key group.key ≡ false) groups place d within (unmap groups apart) in
+      let there : same_row key (get_or groups place d).key ≡ false = All-get_or (λ (group : Group). same_row key group.key ≡ false) groups place d within (unmap groups apart) in
       (eq_by_cmp_equiv row_cmp_total).symm input.key key ∙ ap (same_row key) (sym same) ∙ there
     where
-      unmap : (groups : List KeyGroup) → All (λ (other : List Value). same_row key other ≡ false) (group_keys groups) → All (λ (group : KeyGroup). same_row key group.key ≡ false) groups
-      unmap groups all k d within = rw (get_or-map (λ (group : KeyGroup). group.key) groups k d d.key within) at (all k d.key (rw length-map within))
+      unmap : (groups : List Group) → All (λ (other : List Value). same_row key other ≡ false) (group_keys groups) → All (λ (group : Group). same_row key group.key ≡ false) groups
+      unmap groups all k d within = rw (get_or-map (λ (group : Group). group.key) groups k d d.key within) at (all k d.key (rw length-map within))
 
-  pub one-takes : (groups : List KeyGroup) (place : ℕ) (d new : KeyGroup) → place < length groups → IsDistinct same_row (group_keys groups)
+  pub one-takes : (groups : List Group) (place : ℕ) (d new : Group) → place < length groups → IsDistinct same_row (group_keys groups)
       → (get_or groups place d).key ≡ input.key → new.key ≡ (get_or groups place d).key → TakesArguments calls input.args
       → new.tallies ≡ fed calls (get_or groups place d).tallies input.args → All (IsOverInputs calls inputs) groups
       → All (IsOverInputs calls (inputs ++ input ∷ [])) (set groups place new)
@@ -155,18 +155,18 @@ inputs_of-none key (input ∷ inputs) all =
     (eq_by_cmp_equiv row_cmp_total).symm input.key key ∙ All-head (λ (another : List Value). same_row key another ≡ false) input.key (input_keys inputs) all in
     rw apart (inputs_of-none key inputs (All-tail (λ (another : List Value). same_row key another ≡ false) input.key (input_keys inputs) all))
 
-module _ (calls : List AggCall) (names : List (List ℕ)) (groups : List KeyGroup) (inputs : List Keyed) (input : Keyed) (of : AreOf calls names groups inputs) (held : All IsHeld input.key)
+module _ (calls : List AggCall) (names : List (List ℕ)) (groups : List Group) (inputs : List Keyed) (input : Keyed) (of : AreOf calls names groups inputs) (held : All IsHeld input.key)
     (takes : TakesArguments calls input.args) where
   -- an input of a key that is known goes to its group
-  pub AreOf-known : (place : ℕ) (d new : KeyGroup) → place_of (key_bytes input.key) names ≡ Some place → new.key ≡ (get_or groups place d).key
+  pub AreOf-known : (place : ℕ) (d new : Group) → place_of (key_bytes input.key) names ≡ Some place → new.key ≡ (get_or groups place d).key
       → new.tallies ≡ fed calls (get_or groups place d).tallies input.args → AreOf calls names (set groups place new) (inputs ++ input ∷ [])
   AreOf-known place d new at kept taken =
       let there : (place < length (group_keys groups)) × (get_or (group_keys groups) place input.key ≡ input.key) =
       found (group_keys groups) input.key place of.held held (ap (place_of (key_bytes input.key)) (sym of.named) ∙ at) in
-      let within : place < length groups = rw (length-map groups (λ (group : KeyGroup). group.key)) at there.0 in
-      let own_key : (get_or groups place d).key ≡ input.key = sym (get_or-map (λ (group : KeyGroup). group.key) groups place d input.key within) ∙ there.1 in
+      let within : place < length groups = rw (length-map groups (λ (group : Group). group.key)) at there.0 in
+      let own_key : (get_or groups place d).key ≡ input.key = sym (get_or-map (λ (group : Group). group.key) groups place d input.key within) ∙ there.1 in
       let keys : group_keys (set groups place new) ≡ group_keys groups =
-      map-set (λ (group : KeyGroup). group.key) groups place new ∙ ap (set (group_keys groups) place) (kept ∙ own_key ∙ sym there.1) ∙ set-get_or (group_keys groups) place input.key in
+      map-set (λ (group : Group). group.key) groups place new ∙ ap (set (group_keys groups) place) (kept ∙ own_key ∙ sym there.1) ∙ set-get_or (group_keys groups) place input.key in
       record {
         named = of.named ∙ ap (map key_bytes) (sym keys);
         apart = subst (IsDistinct same_row) (sym keys) of.apart;
@@ -178,11 +178,11 @@ module _ (calls : List AggCall) (names : List (List ℕ)) (groups : List KeyGrou
       }
 
   -- one of a new key begins a group
-  pub AreOf-new : (new : KeyGroup) → place_of (key_bytes input.key) names ≡ None → new.key ≡ input.key → new.tallies ≡ fed calls (units calls) input.args
+  pub AreOf-new : (new : Group) → place_of (key_bytes input.key) names ≡ None → new.key ≡ input.key → new.tallies ≡ fed calls (units calls) input.args
       → AreOf calls (names ++ key_bytes input.key ∷ []) (groups ++ new ∷ []) (inputs ++ input ∷ [])
   AreOf-new new none is_key taken =
       let keys : group_keys (groups ++ new ∷ []) ≡ group_keys groups ++ input.key ∷ [] =
-      map_push (λ (group : KeyGroup). group.key) groups new ∙ ap (λ (k : List Value). group_keys groups ++ k ∷ []) is_key in
+      map_push (λ (group : Group). group.key) groups new ∙ ap (λ (k : List Value). group_keys groups ++ k ∷ []) is_key in
       let absent : list_any (λ (other : List ℕ). bytes_eq other (key_bytes input.key)) (map key_bytes (group_keys groups)) ≡ false =
       sym (is_some-position (λ (other : List ℕ). bytes_eq other (key_bytes input.key)) (map key_bytes (group_keys groups)))
       ∙ ap is_some (ap (place_of (key_bytes input.key)) (sym of.named) ∙ none) in

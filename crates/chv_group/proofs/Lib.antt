@@ -1,8 +1,11 @@
 pub mod ClimbLemmas
 pub mod CollapseLemmas
+pub mod FeedLemmas
 pub mod FinishLemmas
 pub mod GroupLemmas
 pub mod KeyBytesLemmas
+pub mod KeyLemmas
 pub mod KeyNameLemmas
 pub mod OverLemmas
+pub mod PartLemmas
 pub mod TallyLemmas

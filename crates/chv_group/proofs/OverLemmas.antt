@@ -203,3 +203,8 @@ merge-IsOver call old new bytes over is fits =
 pub on_both : {T E P Q R : Type 0} (r : Result T E) → OnOk r P → OnOk r Q → (P → Q → R) → OnOk r R
 on_both (Ok t) p q f = f p q
 on_both (Err e) p q f = tt
+
+-- what follows from three
+pub on_three : {T E P Q R S : Type 0} (r : Result T E) → OnOk r P → OnOk r Q → OnOk r R → (P → Q → R → S) → OnOk r S
+on_three (Ok t) p q s f = f p q s
+on_three (Err e) p q s f = tt

@@ -1,5 +1,5 @@
 -- The states of calls over a group.
-use Rattle.std.specs.Prelude.{ℕ, ◌+◌, List, [], ◌∷◌, map}
+use Rattle.std.specs.Prelude.{ℕ, ◌≡◌, ◌+◌, List, [], ◌∷◌, map, take, drop}
 use Rattle.chv_agg.specs.States.{IsOver, join, unit_of}
 use Rattle.chv_agg.specs.declared.any_agg.AnyAgg.{AnyAgg}
 use Rattle.chv_group.specs.Groups.{argument_at, call_state, input_state, state_value}
@@ -25,6 +25,19 @@ fed calls states values = []
 abbrev pub values_of : List AggCall → List AnyAgg → List Value
 values_of (call ∷ calls) (state ∷ states) = state_value call state ∷ values_of calls states
 values_of calls states = []
+
+-- what a call gives of no inputs
+abbrev pub unit_value : AggCall → Value
+unit_value call = state_value call (unit_of call.agg call.arg)
+
+-- so many items from a place on
+abbrev pub part : {A : Type 0} → ℕ → ℕ → List A → List A
+part first count items = take count (drop first items)
+
+-- of two lists all is the same but for so many items from a place on
+pub record KeepsOthers {A : Type 0} (first count : ℕ) (old new : List A) : Type 0 where
+  pub before : take first new ≡ take first old
+  pub behind : drop (first + count) new ≡ drop (first + count) old
 
 -- each call has a state of its function
 abbrev pub AreOver : List AggCall → List AnyAgg → Type 0

@@ -240,8 +240,8 @@ fn add_bytes(
     Ok(())
 }
 
-// The number that is a key's one value, where it is one.
-fn number_in(key: &[Seen<'_>]) -> Option<i128>
+/// The number that is a key's one value, where it is one.
+pub(crate) fn number_in(key: &[Seen<'_>]) -> Option<i128>
     ensures number { IfSome result (λ n. map seen_value key.now ≡ value.Whole n ∷ []) }
     ensures other { IsNone result → (n : ℤ) → map seen_value key.now ≡ value.Whole n ∷ [] → ⊥ }
 {

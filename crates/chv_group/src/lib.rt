@@ -5,9 +5,10 @@ mod call;
 mod climbing;
 mod grouping;
 mod key_bytes;
-mod key_group;
 mod key_names;
 mod laws;
+mod placed_key;
+mod rows;
 mod tallies;
 
 pub use call::{AggCall, AggCalls, Keyed, KeyedRows};

@@ -1,88 +1,68 @@
-// The states of calls over a group.
-ghost use Rattle.std.specs.Prelude.{◌≡◌, ◌++◌, length, map, IfOk, OnOk};
-ghost use Rattle.chv_agg.specs.States.{IsOver, join};
+// The states of calls over groups, one group's behind the other's.
+ghost use Rattle.std.specs.Prelude.{◌≡◌, ◌++◌, ◌+◌, ◌≤◌, length, map, IfOk, OnOk};
+ghost use Rattle.chv_agg.specs.States.{IsOver, join, unit_of};
 ghost use Rattle.chv_group.specs.Groups.{TakesArgument, TakesArguments, input_state, state_value};
-ghost use Rattle.chv_group.specs.Tallies.{AreOver, fed, units, values_of};
+ghost use Rattle.chv_group.specs.Tallies.{AreOver, KeepsOthers, fed, part, unit_value, units, values_of};
 ghost use Rattle.chv_types.specs.Order.{bytes};
 ghost use Rattle.chv_types.specs.Values.{seen_value};
 
 use crate::AggCall;
 use chv_agg::Tally;
-use chv_types::{AggForm, Row, Seen, Value};
+use chv_types::{AggForm, AggName, Row, Scalar, Seen, Value};
 use std::alloc::{AllocError, Global};
-use std::marker::Model;
+use std::mem;
 
-/// The states of calls, in the order of the calls.
-#[derive(Debug, Drop)]
-pub struct Tallies {
-    items: Vec<Tally>,
-}
-
-impl Model for Tallies {
-    ghost use Rattle.std.specs.Prelude.{List};
-    ghost use Rattle.chv_agg.specs.declared.any_agg.AnyAgg.{AnyAgg as SomeState};
-
-    ghost Value = { List SomeState };
-
-    ghost view = { λ tallies. tallies.items.items };
-}
-
-impl Tallies {
-    /// The states over no inputs.
-    pub(crate) fn new(alloc: Global, calls: &[AggCall]) -> Result<Tallies, AllocError>
-        ensures { IfOk result (λ tallies. tallies ≡ units calls.now) }
-    {
-        let mut items = Vec::with_capacity(alloc, calls.len())?;
-        for call in calls {
-            items.push(Tally::new(alloc, call.agg, call.arg)?)?;
-        }
-        Ok(Tallies { items })
-    }
-
-    /// Takes one argument more for each call. After an `Err` it is not used again.
-    pub(crate) fn take(
-        &mut self,
-        alloc: Global,
-        calls: &[AggCall],
-        args: &[Seen<'_>],
-    ) -> Result<(), AllocError>
-        requires takes { TakesArguments calls.now (map seen_value args.now) }
-        requires over { AreOver calls.now self.old }
-        ensures taken { OnOk result (self.new ≡ fed calls.now self.old (map seen_value args.now)) }
-        ensures over { OnOk result (AreOver calls.now self.new) }
-    {
-        take_all(alloc, &mut self.items, calls, args)
-    }
-
-    /// What the calls give, behind the values of a key.
-    pub(crate) fn into_row(
-        self,
-        alloc: Global,
-        calls: &[AggCall],
-        key: Row,
-    ) -> Result<Row, AllocError>
-        requires over { AreOver calls.now self }
-        ensures { IfOk result (λ row. row ≡ key ++ values_of calls.now self) }
-    {
-        let Tallies { items } = self;
-        with_values(alloc, items, calls, key)
-    }
-}
-
-// Takes one argument more for each call.
-fn take_all(
+/// Puts the states of calls over one argument each behind others.
+pub(crate) fn push_first(
     alloc: Global,
     tallies: &mut Vec<Tally>,
     calls: &[AggCall],
     args: &[Seen<'_>],
 ) -> Result<(), AllocError>
     requires takes { TakesArguments calls.now (map seen_value args.now) }
-    requires over { AreOver calls.now tallies.old.items }
-    ensures taken { OnOk result (tallies.new.items ≡ fed calls.now tallies.old.items (map seen_value args.now)) }
-    ensures over { OnOk result (AreOver calls.now tallies.new.items) }
+    ensures taken { OnOk result (tallies.new.items ≡ tallies.old.items ++ fed calls.now (units calls.now) (map seen_value args.now)) }
+    ensures over { OnOk result (AreOver calls.now (fed calls.now (units calls.now) (map seen_value args.now))) }
 {
     for place in 0..calls.len() {
-        take_one(alloc, &mut tallies[place], calls[place], args[place])?;
+        tallies.push(first_of(alloc, calls[place], args[place])?)?;
+    }
+    Ok(())
+}
+
+// The state of a call over one argument.
+fn first_of(alloc: Global, call: AggCall, arg: Seen<'_>) -> Result<Tally, AllocError>
+    requires takes { TakesArgument call (seen_value arg) }
+    ensures taken { IfOk result (λ tally. tally ≡ join (unit_of call.agg call.arg) (input_state call (seen_value arg.entry))) }
+    ensures over { IfOk result (λ tally. IsOver call.agg call.arg tally) }
+{
+    let mut tally = Tally::new(alloc, call.agg, call.arg)?;
+    take_one(alloc, &mut tally, call, arg)?;
+    Ok(tally)
+}
+
+/// Takes one argument more for each call, whose states stand from a place on. After an `Err` they are not used again.
+pub(crate) fn take_all(
+    alloc: Global,
+    tallies: &mut Vec<Tally>,
+    first: usize,
+    calls: &[AggCall],
+    args: &[Seen<'_>],
+) -> Result<(), AllocError>
+    requires takes { TakesArguments calls.now (map seen_value args.now) }
+    requires within { first + length calls.now ≤ length tallies.old.items }
+    requires over { AreOver calls.now (part first (length calls.now) tallies.old.items) }
+    ensures taken { OnOk result (part first (length calls.now) tallies.new.items ≡ fed calls.now (part first (length calls.now) tallies.old.items) (map seen_value args.now)) }
+    ensures over { OnOk result (AreOver calls.now (part first (length calls.now) tallies.new.items)) }
+    ensures others { OnOk result (KeepsOthers first (length calls.now) tallies.old.items tallies.new.items) }
+    ensures size { OnOk result (length tallies.new.items ≡ length tallies.old.items) }
+{
+    for place in 0..calls.len() {
+        take_one(
+            alloc,
+            &mut tallies[first + place],
+            calls[place],
+            args[place],
+        )?;
     }
     Ok(())
 }
@@ -117,20 +97,33 @@ fn bytes_of<'a>(value: Seen<'a>) -> &'a [u8]
     }
 }
 
-// What calls give, behind other values.
-fn with_values(
+/// What calls give of their states, which stand from a place on, behind other values. These states are taken out.
+pub(crate) fn with_values(
     alloc: Global,
-    mut tallies: Vec<Tally>,
+    tallies: &mut Vec<Tally>,
+    first: usize,
     calls: &[AggCall],
     mut row: Row,
 ) -> Result<Row, AllocError>
-    requires over { AreOver calls.now tallies.items }
-    ensures { IfOk result (λ made. made ≡ row ++ values_of calls.now tallies.items) }
+    requires within { first + length calls.now ≤ length tallies.old.items }
+    requires over { AreOver calls.now (part first (length calls.now) tallies.old.items) }
+    ensures values { IfOk result (λ made. made ≡ row ++ values_of calls.now (part first (length calls.now) tallies.old.items)) }
+    ensures others { OnOk result (KeepsOthers first (length calls.now) tallies.old.items tallies.new.items) }
+    ensures size { OnOk result (length tallies.new.items ≡ length tallies.old.items) }
 {
-    for call in calls {
-        row.push(result_of(alloc, tallies.remove(0), *call)?)?;
+    for place in 0..calls.len() {
+        let tally = take_out(alloc, &mut tallies[first + place])?;
+        row.push(result_of(alloc, tally, calls[place])?)?;
     }
     Ok(row)
+}
+
+// Takes a state out, and leaves one that takes no memory.
+fn take_out(alloc: Global, tally: &mut Tally) -> Result<Tally, AllocError>
+    ensures { IfOk result (λ taken. taken ≡ tally.old) }
+{
+    let other = Tally::new(alloc, AggName::Count, Scalar::UInt64)?;
+    Ok(mem::replace(tally, other))
 }
 
 // What a call gives of its state.
@@ -142,4 +135,22 @@ fn result_of(alloc: Global, tally: Tally, call: AggCall) -> Result<Value, AllocE
         AggForm::Plain | AggForm::Merge => tally.into_value(alloc, call.arg),
         AggForm::State | AggForm::MergeState => tally.into_state(alloc, call.arg),
     }
+}
+
+/// What calls give of no inputs.
+pub(crate) fn values_of_none(alloc: Global, calls: &[AggCall]) -> Result<Row, AllocError>
+    ensures { IfOk result (λ row. row ≡ map unit_value calls.now) }
+{
+    let mut row = Row::new(alloc);
+    for call in calls {
+        row.push(value_of_none(alloc, *call)?)?;
+    }
+    Ok(row)
+}
+
+// What a call gives of no inputs.
+fn value_of_none(alloc: Global, call: AggCall) -> Result<Value, AllocError>
+    ensures { IfOk result (λ value. value ≡ unit_value call) }
+{
+    result_of(alloc, Tally::new(alloc, call.agg, call.arg)?, call)
 }

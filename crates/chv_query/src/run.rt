@@ -6,7 +6,7 @@ ghost use Rattle.std.specs.Result.{result_ok};
 ghost use Rattle.chv_query.specs.Bound.{AreColumns, TakesRow, first_division, made_by, run, term_in};
 ghost use Rattle.chv_query.specs.Results.{output_row, passes, results};
 
-use crate::running::run_groups;
+use crate::running::{run_groups, run_groups_of};
 use crate::{BlockFault, Query};
 use chv_expr::{Bound, EvalFault, ZeroDivisor};
 use chv_types::{Block, Row, Seen, Value};
@@ -27,6 +27,7 @@ pub fn run_block(alloc: Global, query: &Query, block: &Block) -> Result<Block, B
 }
 
 /// The same over rows that are not wanted any more: where all are shown as they are, none is copied.
+#[tactic(auto, unfolding(crate::specs::Results::shaped))]
 pub fn run_rows(alloc: Global, query: &Query, block: Block) -> Result<Block, BlockFault>
     requires takes { All (TakesRow query.now) block }
     ensures rows { IfOk result (λ rows. (rows ≡ run query.now block) × (first_division query.now block ≡ None)) }
@@ -35,7 +36,10 @@ pub fn run_rows(alloc: Global, query: &Query, block: Block) -> Result<Block, Blo
     if shows_all(query, block.as_slice()) {
         return Ok(block);
     }
-    run_block(alloc, query, &block)
+    match &query.grouping {
+        None => run_each(alloc, query, block.as_slice()),
+        Some(groups) => run_groups_of(alloc, query, groups, block),
+    }
 }
 
 // What a query makes of each of some rows.

@@ -1,6 +1,7 @@
 // Rows of queries that group.
 ghost use Rattle.std.specs.Prelude.{◌≡◌, ◌++◌, ◌∷◌, [], ℕ, List, Some, None, IsSome, IsTrue, map, take, drop, IfOk, IfErr, OnOk};
 ghost use Rattle.std.specs.List.{All};
+ghost use Rattle.chv_group.specs.Groups.{grouped};
 ghost use Rattle.chv_group.specs.Takings.{HasTaken};
 ghost use Rattle.chv_group.specs.declared.call.Keyed.{Keyed as Input};
 ghost use Rattle.chv_query.specs.Bound.{TakesRow, first_division, made_by, term_in};
@@ -29,8 +30,33 @@ pub fn run_groups(
     ensures zero { IfErr result (λ fault. (row : ℕ) → fault ≡ BlockFault.ZeroDivisor row → first_division query.now rows.now ≡ Some row) }
 {
     let grouping = feed_rows(alloc, query, groups, rows)?;
+    Ok(finish(alloc, groups, grouping)?)
+}
+
+/// The same over rows that are not wanted any more: they are let go before others are made.
+#[tactic(auto, unfolding(crate::specs::Results::shaped))]
+pub fn run_groups_of(
+    alloc: Global,
+    query: &Query,
+    groups: &Groups,
+    rows: Block,
+) -> Result<Block, BlockFault>
+    requires groups { query.now.grouping ≡ Some groups.now }
+    requires takes { All (TakesRow query.now) rows }
+    ensures rows { IfOk result (λ made. (made ≡ shaped (Some groups.now) (results (made_by query.now) rows)) × (first_division query.now rows ≡ None)) }
+    ensures zero { IfErr result (λ fault. (row : ℕ) → fault ≡ BlockFault.ZeroDivisor row → first_division query.now rows ≡ Some row) }
+{
+    let grouping = feed_rows(alloc, query, groups, rows.as_slice())?;
+    drop(rows);
+    Ok(finish(alloc, groups, grouping)?)
+}
+
+// The rows of a grouping, with the values that are shown.
+fn finish(alloc: Global, groups: &Groups, grouping: Grouping) -> Result<Block, AllocError>
+    ensures { IfOk result (λ made. (taken : List Input) → HasTaken grouping taken → made ≡ map (arranged groups.now.cells) (grouped grouping.calls taken groups.now.always)) }
+{
     let made = grouping.finish(alloc, groups.always)?;
-    Ok(arrange(alloc, groups.cells.as_slice(), made)?)
+    arrange(alloc, groups.cells.as_slice(), made)
 }
 
 // A grouping that has taken what is made of rows.

@@ -2,7 +2,11 @@ use Rattle.std.proofs.lemmas.Result.{IfOk-weaker}
 use Rattle.chv_group.proofs.grouping.Grouping.finish.Goals as goal
 
 pub finished-requires : goal.finished-requires
-finished-requires c = record { over = rw c.as_slice.ensures c.self.invariant.over }
+finished-requires c = record {
+  placed = c.self.invariant.placed;
+  whole = rw c.as_slice.ensures c.self.invariant.whole;
+  over = rw c.as_slice.ensures c.self.invariant.over;
+}
 
 pub returns : goal.returns
 returns c =

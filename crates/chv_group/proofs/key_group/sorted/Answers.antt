@@ -1,9 +1,0 @@
-use Rattle.std.proofs.Common.{rules}
-use Rattle.std.proofs.lemmas.Fn.{always_returns_same}
-use Rattle.chv_group.proofs.FinishLemmas.{group_below-IsStrictWeakOrder}
-use Rattle.chv_group.specs.Takings.{group_below}
-use Rattle.chv_group.proofs.key_group.sorted.Goals as goal
-
-pub returns-clause-sorted : goal.returns-clause-sorted
-returns-clause-sorted c =
-    c.sort_unstable_by.ensures.sorted group_below group_below-IsStrictWeakOrder (always_returns_same _ _ _ (λ a r f called. search rules))
