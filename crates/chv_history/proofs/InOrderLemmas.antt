@@ -24,7 +24,7 @@ use Rattle.chv_history.proofs.LeftLemmas.{behind-append}
 use Rattle.chv_history.proofs.PlannedLemmas.{TaskBrings, task_brings}
 use Rattle.chv_history.proofs.ScriptLemmas.{IsAskFormed, asks_formed}
 use Rattle.chv_history.proofs.TraceLemmas.{rest_next, rest_none, rest_unique}
-use Rattle.chv_history.proofs.TurnLemmas.{Acts, BringsNothing, acts_first, acts_last, acts_planned, acts_taken, behind_made, bringing, client_of-Next, client_of-there}
+use Rattle.chv_history.proofs.TurnLemmas.{Acts, BringsNothing, acts_answered, acts_first, acts_last, acts_planned, behind_made, bringing, client_of-Next, client_of-there}
 
 -- next come these events, behind which this is what all clients have to do
 abbrev Leads : Moment → Control → List Event → Control → Type 0
@@ -125,8 +125,9 @@ module _ (before rest : List Client) (idle : position has_work before ≡ None) 
     abbrev AnswersAs : Result Task Refusal → Type 0
     AnswersAs task = (after : Client) × Rests after × (after.asks ≡ asks) × Leads m (with_work work) (answer_events number task m.history) (with_work after)
 
-    by_silent : (task : Result Task Refusal) → answer_in m.history (with_work work) asked ≡ task → BringsNothing task → Acts Next m.history (with_work work) (answer_events number task m.history) (record { clients = slice_set (before ++ work ∷ rest) number (asking asks) }) → AnswersAs task
-    by_silent task is nothing acts =
+    by_silent : (task : Result Task Refusal) → answer_in m.history (with_work work) asked ≡ task → BringsNothing task → AnswersAs task
+    by_silent task is nothing =
+        let acts = acts_answered Next m.history (with_work work) number work turn_is none asked asks are task is nothing in
         (asking asks, refl, refl, subst (Leads m (with_work work) (answer_events number task m.history)) (put_is work (asking asks)) (leads_acts m (with_work work) (answer_events number task m.history) _ acts))
 
     by_plan : (plan : Plan) → answer_in m.history (with_work work) asked ≡ Ok (Bring plan) → 1 ≤ length plan → AnswersAs (Ok (Bring plan))
@@ -142,10 +143,10 @@ module _ (before rest : List Client) (idle : position has_work before ≡ None) 
 
     by_task : (task : Result Task Refusal) → answer_in m.history (with_work work) asked ≡ task → IfOk task TaskBrings → AnswersAs task
     by_task (Ok (Bring plan)) is brings = by_plan plan is brings
-    by_task (Ok (Make accepted)) is brings = by_silent (Ok (Make accepted)) is tt (acts_taken Next m.history (with_work work) number work turn_is none asked asks are (Ok (Make accepted)) is)
-    by_task (Ok (TellRows query)) is brings = by_silent (Ok (TellRows query)) is tt (acts_taken Next m.history (with_work work) number work turn_is none asked asks are (Ok (TellRows query)) is)
-    by_task (Ok (TellParts table def)) is brings = by_silent (Ok (TellParts table def)) is tt (acts_taken Next m.history (with_work work) number work turn_is none asked asks are (Ok (TellParts table def)) is)
-    by_task (Err refuses) is brings = by_silent (Err refuses) is tt (acts_taken Next m.history (with_work work) number work turn_is none asked asks are (Err refuses) is)
+    by_task (Ok (Make accepted)) is brings = by_silent (Ok (Make accepted)) is tt
+    by_task (Ok (TellRows query)) is brings = by_silent (Ok (TellRows query)) is tt
+    by_task (Ok (TellParts table def)) is brings = by_silent (Ok (TellParts table def)) is tt
+    by_task (Err refuses) is brings = by_silent (Err refuses) is tt
 
     answered : IsAskFormed asked → IsAnswered m work asked asks
     answered formed =

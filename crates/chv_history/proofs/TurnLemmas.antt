@@ -76,6 +76,14 @@ first_works control client first =
 with_client-back : (control : Control) (client : ℕ) (work : Client) → slice_get control.clients client ≡ Some work → with_client control client work ≡ control
 with_client-back control client work is = ap (λ (clients : List Client). record { clients = clients }) (slice_set-back control.clients client work is)
 
+-- an answer that brings nothing
+abbrev pub BringsNothing : Result Task Refusal → Type 0
+BringsNothing (Ok (Bring plan)) = ⊥
+BringsNothing (Ok (Make accepted)) = Unit {0}
+BringsNothing (Ok (TellRows query)) = Unit {0}
+BringsNothing (Ok (TellParts table def)) = Unit {0}
+BringsNothing (Err refuses) = Unit {0}
+
 -- a turn, in a history, with what all clients have to do
 module _ (turn : Turn) (history : History) (control : Control) where
   -- what a turn does: these events, and this is what is to do behind it
@@ -168,13 +176,13 @@ module _ (turn : Turn) (history : History) (control : Control) where
         pub acts_refused : (refuses : Refusal) → answer asked ≡ Err refuses → Acts (Replied (refused_line client refuses) [] true ∷ []) (with_client control client (asking asks))
         acts_refused refuses task_is = acts_taken (Err refuses) task_is
 
--- an answer that brings nothing
-abbrev pub BringsNothing : Result Task Refusal → Type 0
-BringsNothing (Ok (Bring plan)) = ⊥
-BringsNothing (Ok (Make accepted)) = Unit {0}
-BringsNothing (Ok (TellRows query)) = Unit {0}
-BringsNothing (Ok (TellParts table def)) = Unit {0}
-BringsNothing (Err refuses) = Unit {0}
+        -- so it is answered, where it brings nothing
+        pub acts_answered : (task : Result Task Refusal) → answer asked ≡ task → BringsNothing task → Acts (answer_events client task history) (with_client control client (asking asks))
+        acts_answered (Ok (Bring plan)) task_is nothing = absurd nothing
+        acts_answered (Ok (Make accepted)) task_is nothing = acts_made accepted task_is
+        acts_answered (Ok (TellRows query)) task_is nothing = acts_rows query task_is
+        acts_answered (Ok (TellParts table def)) task_is nothing = acts_parts table def task_is
+        acts_answered (Err refuses) task_is nothing = acts_refused refuses task_is
 
 -- what holds of each way that a turn may go holds of the turn
 module _ (turn : Turn) (history : History) (control : Control) (Holds : List Event → Control → Type 0) where
