@@ -1,7 +1,6 @@
 -- Rows that literals write are of their columns' kinds.
-use Rattle.std.proofs.Common.{◌≡◌, ◌+◌, ◌<◌, ◌≤◌, ℕ, suc, Bool, true, false, not, List, [], ◌∷◌, length, map, get_or, Option, None, Some, Result, Ok, Err, if◌then◌else◌, nat_eq, nat_lt, refl, ap, subst, ◌∙◌, arith, rules, eqb-true}
+use Rattle.std.proofs.Common.{◌≡◌, ◌+◌, ◌<◌, ℕ, suc, Bool, true, false, not, List, [], ◌∷◌, length, map, get_or, Option, None, Some, Result, Ok, Err, if◌then◌else◌, nat_eq, nat_lt, refl, ap, subst, ◌∙◌, arith, eqb-true}
 use Rattle.std.specs.List.{All, cons_option}
-use Rattle.std.proofs.lemmas.Int.{ints}
 use Rattle.std.proofs.lemmas.List.Elements.{All-cons, All-head, All-nil, All-tail}
 use Rattle.std.proofs.lemmas.Option.{slice_get-get_or}
 use Rattle.chv_ast.specs.declared.expr.Literal.{Literal}

@@ -1,5 +1,5 @@
 -- What a definition of a view says.
-use Rattle.std.proofs.Common.{◌≡◌, ◌<◌, ◌≤◌, ℕ, Bool, true, false, not, nat_lt, List, ◌∷◌, [], ◌++◌, length, Option, Some, None, is_some, Result, Ok, refl, subst, arith}
+use Rattle.std.proofs.Common.{◌≡◌, ◌<◌, ◌≤◌, ℕ, Bool, true, false, not, nat_lt, ◌∷◌, [], ◌++◌, length, Option, Some, None, is_some, Result, Ok, refl, subst}
 use Rattle.std.specs.List.{list_any}
 use Rattle.std.proofs.lemmas.Bool.{ltb-true, ltb-false}
 use Rattle.chv_ast.specs.declared.refusal.Refusal.{Refusal}

@@ -10,6 +10,7 @@ pub mod Outputs
 pub mod Plans
 pub mod Queries
 pub mod Results
+pub mod Sets
 pub mod Shapes
 pub mod Shown
 pub mod Tables

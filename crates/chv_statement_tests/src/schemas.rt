@@ -1,8 +1,7 @@
 // Schemas, made of the texts of their statements.
 ghost use Rattle.std.specs.Prelude.{◌≡◌, true, IfSome};
 ghost use Rattle.chv_ast.specs.Formed.{FormedTable, FormedView};
-ghost use Rattle.chv_query.specs.Accepted.{Accepted, IsAccepted, is_built_create, is_built_table};
-ghost use Rattle.chv_plan.specs.Bound.{IsCatalog};
+ghost use Rattle.chv_query.specs.Accepted.{Accepted, IsAccepted, IsCatalog, is_built_create, is_built_table};
 
 use crate::making::{name_of, statement_of};
 use chv_ast::{CreateTable, CreateView, Statement};
