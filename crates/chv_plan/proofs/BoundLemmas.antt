@@ -1,12 +1,14 @@
 -- Views that are bound, by their numbers, and those to which paths lead.
-use Rattle.std.proofs.Common.{◌≡◌, ◌∙◌, ◌<◌, ◌≢◌, ℕ, zero, suc, true, List, [], ◌∷◌, ◌++◌, length, get_or, map, set, Option, None, Some, is_some, slice_get, inl, inr, refl, sym, ap, subst, arith}
+use Rattle.std.proofs.Common.{◌≡◌, ◌∙◌, ◌<◌, ◌+◌, ◌≢◌, ℕ, zero, suc, true, List, [], ◌∷◌, length, get_or, map, set, take, Option, None, Some, is_some, slice_get, inl, inr, refl, sym, ap, subst, arith}
 use Rattle.std.specs.List.{All}
 use Rattle.std.proofs.lemmas.Bool.{cases_eq}
-use Rattle.std.proofs.lemmas.List.{length-set}
-use Rattle.std.proofs.lemmas.List.Elements.{All-cons, All-head, All-nil, All-tail}
+use Rattle.std.proofs.lemmas.List.{length-map, length-set}
+use Rattle.std.proofs.lemmas.List.Elements.{All-cons, All-get_or, All-head, All-more, All-nil, All-tail, All-weaker}
 use Rattle.std.proofs.lemmas.Option.{slice_get-get_or, slice_get_within}
-use Rattle.chv_catalog.specs.Paths.{links_of, paths_from, paths_within, target_of, MAX_PATH}
+use Rattle.chv_catalog.proofs.PathLemmas.{paths_from-are}
+use Rattle.chv_catalog.specs.Paths.{MAX_PATH, link_of, links_of, paths_from, paths_within, target_of}
 use Rattle.chv_catalog.specs.Schemas.{Catalog}
+use Rattle.chv_catalog.specs.Walks.{IsPathWithin}
 use Rattle.chv_catalog.specs.declared.link.Link.{Link}
 use Rattle.chv_catalog.specs.declared.view_def.ViewDef.{ViewDef}
 use Rattle.chv_query.proofs.GrowthLemmas.{All-at}
@@ -107,3 +109,27 @@ module _ (bound : List (Option BoundView)) (links : List Link) where
   pub there_from : (table : ℕ) → AreThere bound (paths_from links table) → AreThere bound (paths_within MAX_PATH links table)
   unfolding paths_from
   there_from table all = all
+
+-- the views on a path from a table are those of the catalog
+pub path_there : (catalog : Catalog) (table : ℕ) (paths : List (List ℕ)) (i : ℕ) (path other : List ℕ) → paths ≡ paths_from (links_of catalog.views) table → i < length paths → path ≡ get_or paths i other
+    → All (λ view. view < length catalog.views) path
+path_there catalog table paths i path other are within is =
+    let links = links_of catalog.views in
+    let P = IsPathWithin MAX_PATH links table in
+    let one : P (get_or paths i other) = All-get_or P paths i other within (subst (All P) (sym are) (paths_from-are links table)) in
+    subst (All (λ (view : ℕ). view < length catalog.views)) (sym is)
+    (All-weaker (λ (view : ℕ). view < length links) (λ (view : ℕ). view < length catalog.views) (λ view before. omega (arith, before, length-map catalog.views link_of)) (get_or paths i other) one.there)
+
+-- the views on one path more are bound
+pub AreThere-more : (catalog : Catalog) (old new : List (Option BoundView)) (paths : List (List ℕ)) (i : ℕ) (path other : List ℕ) → BindsMore catalog old new → AreThere old (take i paths) → i < length paths
+    → path ≡ get_or paths i other → All (IsThere new) path → AreThere new (take (i + 1) paths)
+AreThere-more catalog old new paths i path other more there within is all =
+    All-more (All (IsThere new)) paths i other within
+    (All-weaker (All (IsThere old)) (All (IsThere new)) (λ p. All-weaker (IsThere old) (IsThere new) more.kept p) (take i paths) there)
+    (subst (All (IsThere new)) is all)
+
+-- one view more on a path is bound
+pub there-more : (catalog : Catalog) (old new : List (Option BoundView)) (path : List ℕ) (i other : ℕ) → BindsMore catalog old new → All (IsThere old) (take i path) → i < length path → IsThere new (get_or path i other)
+    → All (IsThere new) (take (i + 1) path)
+there-more catalog old new path i other more there within one =
+    All-more (IsThere new) path i other within (All-weaker (IsThere old) (IsThere new) more.kept (take i path) there) one

@@ -16,11 +16,13 @@ use Rattle.chv_types.specs.Names.{place_of}
 use Rattle.chv_types.specs.declared.table.Column.{Column}
 use Rattle.chv_query.specs.Definitions.{column_names, columns_of, defined, has_loose, has_state, is_aggregating, kind_of, table_with, window_of}
 
-none_there : {A : Type 0} (o : Option A) → is_some o ≡ false → o ≡ None
+-- nothing is there
+pub none_there : {A : Type 0} (o : Option A) → is_some o ≡ false → o ≡ None
 none_there None h = refl
 none_there (Some a) h = cc
 
-negated : (b : Bool) → not b ≡ false → b ≡ true
+-- a test that is negated
+pub negated : (b : Bool) → not b ≡ false → b ≡ true
 negated true h = refl
 negated false h = cc
 

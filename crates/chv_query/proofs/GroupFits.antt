@@ -18,11 +18,12 @@ use Rattle.chv_group.specs.Groups.{TakesArgument, argument_at, call_state, gives
 use Rattle.chv_group.specs.declared.call.AggCall.{AggCall}
 use Rattle.chv_group.specs.declared.call.Keyed.{Keyed}
 use Rattle.chv_query.proofs.SetSums.{call_state-fits, call_state-size, input_size, length-mapped, members-length, total-filter, total-groups, total-map, total-more, total-none, total-same}
-use Rattle.chv_query.proofs.ShapeTerms.{AllPlaced, some_same, term_kinds}
+use Rattle.chv_query.proofs.ShapeTerms.{AllPlaced, term_kinds}
 use Rattle.chv_query.specs.Calls.{call_kind}
 use Rattle.chv_query.specs.Results.{arranged, outcome, output_row, passes}
 use Rattle.chv_query.specs.Results as made_of
 use Rattle.chv_query.specs.Sets.{SetsWithin, set_in, total}
+use Rattle.chv_query.proofs.TakesLemmas.{some_same}
 use Rattle.chv_types.proofs.MemberLemmas.{members-HaveSame, members-Rises}
 use Rattle.chv_types.specs.Aggregates.{result_of as kind_over}
 use Rattle.chv_types.specs.Fits.{IsOfScalar}

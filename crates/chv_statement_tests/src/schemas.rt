@@ -53,7 +53,7 @@ fn add_built(alloc: Global, schema: &mut Schema, made: CreateTable) -> bool
     ensures schema { IsCatalog schema.new.catalog }
 {
     match define(alloc, schema, &made) {
-        Ok(def) => put(alloc, schema, Definition::Table(def)),
+        Ok(table) => put(alloc, schema, Definition::Table(table.def)),
         Err(_) => false,
     }
 }
@@ -64,7 +64,7 @@ fn add_view(alloc: Global, schema: &mut Schema, made: CreateView) -> bool
     ensures schema { IsCatalog schema.new.catalog }
 {
     match define_view(alloc, schema, made) {
-        Ok(def) => put(alloc, schema, Definition::View(def)),
+        Ok(view) => put(alloc, schema, Definition::View(view.def)),
         Err(_) => false,
     }
 }
