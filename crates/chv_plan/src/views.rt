@@ -109,7 +109,8 @@ fn bind_once(
     if bound[view as usize].is_some() {
         return Ok(());
     }
-    bound[view as usize] = Some(bind_at(alloc, schema, view)?);
+    let new = bind_at(alloc, schema, view)?;
+    bound[view as usize] = Some(new);
     Ok(())
 }
 

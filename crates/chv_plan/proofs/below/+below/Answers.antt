@@ -15,11 +15,13 @@ pub deliveries_below-loop-view-init : goal.deliveries_below-loop-view-init
 deliveries_below-loop-view-init t c =
     IsDone-first c.args.bound.now.schema.now.catalog c.args.id c.args.path.now c.args.rows.now c.args.room c.args.table c.new-deliveries.result.items (omega (arith, c.if-room-eq0.false)) c.new-deliveries.ensures.items
 
-pub deliveries_below-deliveries_through-requires-clause-views : goal.deliveries_below-deliveries_through-requires-clause-views
-deliveries_below-deliveries_through-requires-clause-views t c =
+pub deliveries_below-deliveries_through-requires : goal.deliveries_below-deliveries_through-requires
+deliveries_below-deliveries_through-requires t c =
     let bound = c.args.bound.now in
+    let views =
     IsDone-next bound.schema.now.catalog c.args.id c.args.path.now c.args.rows.now c.args.room c.args.table c.loop-view.view (c.loop-view.view + 1) c.view_def.result.now c.view_def.ensures (omega arith)
-    (All (IsThere bound.views.items)) c.loop-view.deliveries.items c.loop-view.invariant c.if-view_def-table.true c.requires.views
+    (All (IsThere bound.views.items)) c.loop-view.deliveries.items c.loop-view.invariant c.if-view_def-table.true c.requires.views in
+    (search rules, (c.requires.schema, (c.requires.bound, (views, (c.requires.there, (search rules, (search rules, search rules)))))))
 
 pub deliveries_below-returns-in_err-more-clause-refused : goal.deliveries_below-returns-in_err-more-clause-refused
 deliveries_below-returns-in_err-more-clause-refused t c =

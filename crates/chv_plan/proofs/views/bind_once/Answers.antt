@@ -17,9 +17,9 @@ returns-then-is_some-clause-there c =
 pub returns-clause-more : goal.returns-clause-more
 returns-clause-more c =
     let within : c.args.view < length c.args.bound.now.items = omega (arith, c.requires.last, c.requires.bound.places) in
-    BindsMore-one c.args.schema.now.catalog c.args.bound.now.items _ c.args.view c.in_ok-bind_at.field-0 within (search) c.requires.bound c.in_ok-bind_at.ensures.bound
+    BindsMore-one c.args.schema.now.catalog c.args.bound.now.items _ c.args.view c.in_ok-new.new within (search) c.requires.bound c.in_ok-new.ensures.bound
 
 pub returns-clause-there : goal.returns-clause-there
 returns-clause-there c =
     let within : c.args.view < length c.args.bound.now.items = omega (arith, c.requires.last, c.requires.bound.places) in
-    bound_there c.args.schema.now.catalog c.args.bound.now.items _ c.args.view c.in_ok-bind_at.field-0 within (search)
+    bound_there c.args.schema.now.catalog c.args.bound.now.items _ c.args.view c.in_ok-new.new within (search)
