@@ -86,7 +86,14 @@ fn deliveries_through(
     // What is below sees the rows as they arrive, before they are put into normal form.
     let below = deliveries_below(bound, id, room, target, &path, &made)?;
     let id = id_along(schema, id, &path);
-    let first = delivery_to(alloc, schema, target, &bound.bound_view(view).kinds, id, made)?;
+    let first = delivery_to(
+        alloc,
+        schema,
+        target,
+        &bound.bound_view(view).kinds,
+        id,
+        made,
+    )?;
     Ok(put_first(alloc, first, below)?)
 }
 

@@ -135,7 +135,11 @@ fn deliveries_of(
     ensures refused { IfErr result (λ fault. (refusal : Refusal) → fault ≡ StatementFault.Refused refusal → (refusal ≡ Refusal.DivisionByZero) × (list_any (divides_below schema.now.catalog table) blocks.items ≡ true)) }
 {
     let views = bind_views(alloc, schema, table)?;
-    let bound = BoundSchema { alloc, schema, views };
+    let bound = BoundSchema {
+        alloc,
+        schema,
+        views,
+    };
     let mut deliveries = Vec::with_capacity(alloc, blocks.len())?;
     let mut number = 0;
     for block in blocks {
