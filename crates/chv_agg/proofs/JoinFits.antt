@@ -16,7 +16,7 @@ use Rattle.chv_types.specs.declared.kind.Scalar.{Scalar}
 use Rattle.chv_types.specs.declared.value.Value.{Value}
 use Rattle.chv_agg.specs.Plain.{values_spelling}
 use Rattle.chv_agg.specs.StateBytes.{state_bytes, state_front, state_in, whole_state}
-use Rattle.chv_agg.specs.States.{either_by, FitsFound, FitsState, higher, is_signed, join, lower, set_size, signed_of, unit_of}
+use Rattle.chv_agg.specs.States.{either_by, FitsFound, FitsState, higher, is_signed, join, lower, signed_of, unit_of}
 use Rattle.chv_agg.specs.declared.any_agg.AnyAgg.{AnyAgg}
 use Rattle.chv_agg.specs.declared.any_agg.AnyAgg.TheVariants.{Count, SumU, SumI, Least, Greatest, Uniq}
 use Rattle.chv_agg.proofs.ReadingLemmas.{some_bytes_each}
@@ -50,6 +50,11 @@ put_member-length x (y ∷ ys) =
 pub members-length : (xs : List Value) → length (members value_cmp xs) ≤ length xs
 members-length [] = omega arith
 members-length (x ∷ xs) = omega (arith, put_member-length x (members value_cmp xs), members-length xs)
+
+-- how many values the set of a state has
+abbrev pub set_size : AnyAgg → ℕ
+set_size (Uniq values) = length values
+set_size other = 0
 
 -- a value that is one of two is of their kind
 either_by-fits : (choose : Value → Value → Value) (arg : Scalar) → ((a b : Value) → IsOfScalar arg a → IsOfScalar arg b → IsOfScalar arg (choose a b))

@@ -99,11 +99,6 @@ value_of arg (Least found) = unwrap_or found (plain_default arg)
 value_of arg (Greatest found) = unwrap_or found (plain_default arg)
 value_of arg (Uniq values) = Whole (pos (length values))
 
--- how many values the set of a state has
-abbrev pub set_size : AnyAgg → ℕ
-set_size (Uniq values) = length values
-set_size other = 0
-
 -- a value is of a kind, where it is there
 abbrev pub FitsFound : Scalar → Option Value → Type 0
 FitsFound arg None = Unit {0}

@@ -2,6 +2,7 @@
 ghost use Rattle.std.specs.Prelude.{◌≡◌, ◌++◌, ◌∷◌, [], IfOk, IfErr, OnOk, List};
 ghost use Rattle.chv_agg.specs.States.{join, one_like, unit_of, value_of};
 ghost use Rattle.chv_agg.specs.Tallies.{worked};
+ghost use Rattle.chv_agg.specs.declared.any_agg.AnyAgg.{AnyAgg as SomeState};
 ghost use Rattle.chv_types.specs.Members.{members};
 ghost use Rattle.chv_types.specs.Order.{value_cmp};
 ghost use Rattle.chv_types.specs.Values.{seen_value};

@@ -1,5 +1,5 @@
 // States with the values of other states, which are borrowed.
-ghost use Rattle.std.specs.Prelude.{◌≡◌, OnOk, OnErr};
+ghost use Rattle.std.specs.Prelude.{◌≡◌, IfOk, OnOk, OnErr};
 ghost use Rattle.chv_agg.specs.States.{join};
 
 use crate::count::Count;

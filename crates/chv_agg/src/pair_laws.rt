@@ -5,7 +5,7 @@ ghost use Rattle.std.specs.Cmp.{IsTotalOrder};
 ghost use Rattle.std.specs.FinMap.{IsAntisymmetric};
 ghost use Rattle.std.specs.List.Sorted.{IsPermutation};
 ghost use Rattle.std.specs.declared.cmp.Ordering.{Ordering as Order};
-ghost use Rattle.chv_agg.specs.Pairs.{IsAssociative, IsCommutative, IsStepwise, IsThrough, collapse, each_by_key, grouped_by, join_each, joint, kept, pair_keys, recast};
+ghost use Rattle.chv_agg.specs.Pairs.{IsAssociative, IsCommutative, IsStepwise, IsThrough, collapse, each_by_key, grouped_by, join_each, join_found, joint, kept, pair_keys, recast};
 ghost use Rattle.chv_types.specs.Members.{members, Rises};
 
 /// Collapsed pairs have the keys of the pairs, each once and in order, and with each key the value that joins all of its

@@ -1,7 +1,8 @@
 // Plain values in bytes.
 ghost use Rattle.std.specs.Prelude.{List, ℕ, ℤ, ◌≡◌, ◌≢◌, ◌≤◌, ◌++◌, length, drop, Some, IfOk, IfSome, IsNone, OnOk, OnErr};
-ghost use Rattle.chv_agg.specs.Plain.{integers_of, scalar_code, scalar_spelling, whole_spelling};
+ghost use Rattle.chv_agg.specs.Plain.{integers_of, scalar_code, scalar_spelling, whole_spelling, truth_spelling};
 ghost use Rattle.chv_bytes.specs.Places.{StandsAt};
+ghost use Rattle.chv_bytes.specs.Runs.{run_bytes};
 ghost use Rattle.chv_types.specs.Fits.{IsOfScalar};
 ghost use Rattle.chv_types.specs.Kinds.{range_of, LiesIn};
 ghost use Rattle.chv_types.specs.Values.{seen_value};

@@ -7,10 +7,6 @@ pub and_then-Ok : {A B E : Type 0} (r : Result A E) (rest : A → Result B E) (b
 and_then-Ok (Ok a) rest b h = (a, refl, h)
 and_then-Ok (Err refusal) rest b h = absurd cc
 
--- what a step answers is one thing
-pub ok_same : {A E : Type 0} (x y : A) → ◌≡◌ {A = Result A E} (Ok x) (Ok y) → x ≡ y
-ok_same {A} {E} x y same = cc
-
 -- a check that passes found nothing bad, and what follows it passes
 pub refuse_if-Ok : {A E : Type 0} (bad : Bool) (refusal : E) (rest : Result A E) (a : A) → refuse_if bad refusal rest ≡ Ok a → (bad ≡ false) × (rest ≡ Ok a)
 refuse_if-Ok false refusal rest a h = (refl, h)

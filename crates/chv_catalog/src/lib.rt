@@ -19,7 +19,7 @@ pub use kind::is_state;
 pub use link::Link;
 pub use named::{Named, has_repeat, has_unknown, place, places_of};
 pub use number::number_within;
-pub use paths::{MAX_PATH, Path, Paths};
+pub use paths::{Path, Paths};
 pub use schema::Schema;
 pub use table_def::TableDef;
 pub use view_def::ViewDef;

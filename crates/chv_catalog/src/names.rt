@@ -1,5 +1,5 @@
 // Names and their places.
-ghost use Rattle.std.specs.Prelude.{◌≡◌, ◌++◌, ◌∷◌, ◌≤◌, ◌<◌, ◌+◌, [], length, None, IfSome, OnOk};
+ghost use Rattle.std.specs.Prelude.{◌≡◌, ◌≢◌, ◌++◌, ◌∷◌, ◌≤◌, ◌<◌, ◌+◌, [], ℕ, length, None, IfSome, OnOk, OnErr};
 ghost use Rattle.chv_types.specs.Names.{place_of};
 
 use indexmap::IndexSet;

@@ -12,8 +12,8 @@ pub type Path = Items<u32>;
 /// Paths from a table, in preorder.
 pub type Paths = Items<Path>;
 
-/// The most views on a path.
-pub const MAX_PATH: u32 = 8;
+// The most views on a path.
+const MAX_PATH: u32 = 8;
 
 // The most paths from a table.
 const MAX_PATHS: u32 = 256;

@@ -1,5 +1,5 @@
 // The schema.
-ghost use Rattle.std.specs.Prelude.{◌≡◌, ◌<◌, ◌≤◌, ◌-◌, ◌+◌, ◌++◌, ◌∷◌, [], length, is_some, option_map, slice_get, Some, None, OnOk, OnErr, IfSome};
+ghost use Rattle.std.specs.Prelude.{◌≡◌, ◌<◌, ◌≤◌, ◌-◌, ◌+◌, ◌++◌, ◌∷◌, [], ℕ, length, is_some, option_map, slice_get, Some, None, OnOk, OnErr, IfSome};
 ghost use Rattle.std.specs.Vec.{vec_len, vec_capacity};
 ghost use Rattle.chv_catalog.specs.Schemas.{definition_name, definitions_in, names_of, no_definitions, place_of, table_names, with_definition, MAX_DEFINITIONS};
 
@@ -21,7 +21,7 @@ pub struct Schema {
 }
 
 impl Model for Schema {
-    ghost use Rattle.std.specs.Prelude.{length, option_map, ◌≤◌, ◌+◌, ◌≡◌};
+    ghost use Rattle.std.specs.Prelude.{List, Option, map, length, ◌≤◌, ◌<◌, ◌+◌, ◌≡◌, Some, None, option_map, ⊤};
     ghost use Rattle.chv_catalog.specs.Schemas.{Seen, MAX_DEFINITIONS, HasRoom, table_names, view_names};
     ghost use Rattle.std.specs.Coded.{codes};
     ghost use Rattle.chv_ast.specs.contracts.expr.Expr as expr;

@@ -11,7 +11,7 @@ use Rattle.chv_ast.specs.declared.statement.Select.{Select}
 use Rattle.chv_ast.specs.declared.statement.Statement.{Statement}
 use Rattle.chv_block.proofs.FitLemmas.{rows_fit}
 use Rattle.chv_block.specs.Spellings.{AllAreOf}
-use Rattle.chv_catalog.proofs.StepLemmas.{and_then-Ok, ok_same}
+use Rattle.chv_catalog.proofs.StepLemmas.{and_then-Ok}
 use Rattle.chv_catalog.specs.Paths.{link_of, links_of, target_of}
 use Rattle.chv_catalog.specs.Schemas.{Catalog, kinds_of, no_definitions, with_definition}
 use Rattle.chv_catalog.specs.declared.definition.Definition.{Definition}
@@ -32,7 +32,7 @@ use Rattle.chv_query.specs.Derived.{columns_at, def_at, divides_in, form_at, for
 use Rattle.chv_query.specs.Outputs.{filter_of}
 use Rattle.chv_query.specs.Queries.{Asked, asked, asked_of, divides, limit_of, sorts_of}
 use Rattle.chv_query.specs.Shapes.{shape_of}
-use Rattle.chv_query.specs.Sets.{SetsWithin}
+use Rattle.chv_query.proofs.GroupFits.{SetsWithin}
 use Rattle.chv_types.specs.Fits.{FitAll}
 use Rattle.chv_types.specs.declared.kind.Kind.{Kind}
 use Rattle.chv_types.specs.declared.value.Value.{Value}
@@ -144,6 +144,10 @@ derived_block catalog is view def rows at block =
 pub none_left : {A : Type 0} (xs : List A) → length xs ≡ 0 → xs ≡ []
 none_left {A} [] none = refl
 none_left {A} (x ∷ xs) none = absurd (omega (arith, none))
+
+-- what one step answers
+ok_same : {A : Type 0} (x y : A) → ◌≡◌ {A = Result A Refusal} (Ok x) (Ok y) → x ≡ y
+ok_same {A} x y same = cc
 
 -- what is asked of a table has its definition
 asked_of-def : (table : ℕ) (def : TableDef) (select : Select) (query : Asked) → asked_of table def select ≡ Ok query → query.def ≡ def

@@ -12,9 +12,9 @@ use Rattle.chv_catalog.specs.declared.link.Link.{Link}
 use Rattle.chv_group.specs.Groups.{is_empty}
 use Rattle.chv_part.specs.Books.{MAX_ROWS, TableForm, normal_rows}
 use Rattle.chv_part.specs.Parts.{part_file}
+use Rattle.chv_query.proofs.GroupFits.{SetsWithin}
 use Rattle.chv_query.specs.Derived.{derived, divides_along, form_at}
 use Rattle.chv_query.specs.Plans.{Delivery, delivery_along}
-use Rattle.chv_query.specs.Sets.{SetsWithin}
 use Rattle.chv_sip.specs.BlockIds.{SourceKey, source_id}
 use Rattle.chv_sip.specs.declared.block_id.BlockId.{BlockId}
 use Rattle.chv_types.specs.declared.value.Value.{Value}

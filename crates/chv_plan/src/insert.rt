@@ -26,13 +26,16 @@ use crate::views::{BoundSchema, bind_views};
 use crate::{Delivery, Plan};
 use chv_ast::{Insert, LiteralRow, Quoted, Refusal};
 use chv_block::{Sizes, Squasher, row_size};
-use chv_catalog::{MAX_PATH, Schema, StatementFault, TableDef};
+use chv_catalog::{Schema, StatementFault, TableDef};
 use chv_types::{Block, Kind, Kinds};
 use sqlite_items::Items;
 use std::alloc::{AllocError, Global};
 
 // The most rows that an INSERT has.
 const MAX_ROWS: usize = 1048576;
+
+// The most views on a path.
+const MAX_PATH: u32 = 8;
 
 /// What an INSERT brings to its table, and to those below views: blocks that are ready to be delivered, in order. It is refused
 /// by the first check that holds.

@@ -1,5 +1,5 @@
 -- What an INSERT that is planned brings are arrivals in its table.
-use Rattle.std.proofs.Common.{◌≡◌, ◌≤◌, ◌<◌, ◌+◌, ◌-◌, ◌^◌, ◌||◌, ℕ, Bool, true, false, not, List, [], ◌∷◌, length, Option, None, Some, Ok, nat_lt, refl, sym, subst, ◌∙◌, arith}
+use Rattle.std.proofs.Common.{◌≡◌, ◌≤◌, ◌<◌, ◌+◌, ◌-◌, ◌^◌, ◌||◌, ℕ, Bool, true, false, not, List, [], ◌∷◌, length, Option, None, Some, Result, Ok, nat_lt, refl, sym, subst, ◌∙◌, arith}
 use Rattle.std.specs.List.{All, filter, list_any}
 use Rattle.std.proofs.lemmas.Bool.{ltb-false, or_parts}
 use Rattle.std.proofs.lemmas.Bool.Decides.{nat_tests}
@@ -8,11 +8,12 @@ use Rattle.std.proofs.lemmas.List.Elements.{All-append, All-cons, All-head, All-
 use Rattle.chv_ast.specs.declared.refusal.Refusal.TheVariants.{UnknownColumn, NameTaken, TypeMismatch, DivisionByZero, LimitPassed}
 use Rattle.chv_ast.specs.declared.statement.Insert.{Insert}
 use Rattle.chv_ast.specs.declared.statement.Settings.{Settings}
+use Rattle.chv_ast.specs.declared.refusal.Refusal.{Refusal}
 use Rattle.chv_block.specs.Blocks.{blocks_of}
 use Rattle.chv_block.specs.Spellings.{AllAreOf, IsSmall}
 use Rattle.chv_block.specs.declared.squasher.Sizes.{Sizes}
 use Rattle.chv_catalog.proofs.PathLemmas.{paths_from-are}
-use Rattle.chv_catalog.proofs.StepLemmas.{and_then-Ok, ok_same, refuse_if-Ok}
+use Rattle.chv_catalog.proofs.StepLemmas.{and_then-Ok, refuse_if-Ok}
 use Rattle.chv_catalog.specs.Checks.{has_repeat, is_state, is_unknown, places_of}
 use Rattle.chv_catalog.specs.Paths.{IsPath, MAX_PATH, links_of, paths_from}
 use Rattle.chv_catalog.specs.Schemas.{Catalog, columns_of, kinds_of}
@@ -37,6 +38,10 @@ use Rattle.chv_query.specs.Arrivals.{IsArrival}
 use Rattle.chv_query.specs.Derived.{def_at, derived, divides_along}
 use Rattle.chv_query.specs.Plans.{AreBlocks, Delivery, block_deliveries, deliveries_of, delivery_along, divides_below, filled_names, is_long, kinds_at, paths_for, planned, planned_for, rows_for, setting_in, sized_rows, sizes_for, source_of}
 use Rattle.chv_query.specs.Tables.{table_of}
+
+-- what one step answers
+ok_same : {A : Type 0} (x y : A) → ◌≡◌ {A = Result A Refusal} (Ok x) (Ok y) → x ≡ y
+ok_same {A} x y same = cc
 
 -- a block has one row at least
 some_rows : (given : Option (List ℕ)) (n : ℕ) → setting_in 1 1048576 65536 given ≡ Ok n → 1 ≤ n

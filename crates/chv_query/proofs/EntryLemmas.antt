@@ -11,12 +11,12 @@ use Rattle.chv_part.specs.Books.{IsEntry, MAX_ROWS, TableForm, normal_rows}
 use Rattle.chv_part.specs.Forms.{form_of}
 use Rattle.chv_types.specs.declared.value.Value.{Value}
 use Rattle.chv_query.proofs.AptLemmas.{IsAptTable, schema-apt}
+use Rattle.chv_query.proofs.GroupFits.{SetsWithin}
 use Rattle.chv_query.proofs.GrowthLemmas.{All-at, IsViewIn, linked, schema-views}
 use Rattle.chv_query.proofs.ViewFits.{SetsWithin-small, viewed-fits}
 use Rattle.chv_query.specs.Accepted.{Accepted, IsSchema, catalog_of}
 use Rattle.chv_query.specs.Arrivals.{Arrival, IsArrival, end_at, entry_in}
 use Rattle.chv_query.specs.Derived.{def_at, derived, form_at, form_in, through, viewed}
-use Rattle.chv_query.specs.Sets.{SetsWithin}
 
 -- rows of the columns of a table, as many as a block has at most, with no larger sets in states than a block brings
 pub record AreRowsOf (def : TableDef) (rows : List (List Value)) : Type 0 where

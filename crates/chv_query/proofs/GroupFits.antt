@@ -5,9 +5,10 @@ use Rattle.std.specs.List.{All, filter}
 use Rattle.std.specs.Option.{IfSome, option_and_then, unwrap_or}
 use Rattle.chv_agg.proofs.StateFrontLemmas.{state_in-spelled}
 use Rattle.chv_agg.specs.StateBytes.{state_bytes}
-use Rattle.chv_agg.specs.States.{FitsState, set_size, value_of}
+use Rattle.chv_agg.specs.States.{FitsState, value_of}
 use Rattle.chv_agg.specs.declared.any_agg.AnyAgg.{AnyAgg}
 use Rattle.chv_agg.specs.declared.any_agg.AnyAgg.TheVariants.{Count, SumU, SumI, Least, Greatest, Uniq}
+use Rattle.chv_agg.proofs.JoinFits.{set_size}
 use Rattle.chv_block.proofs.DefaultLemmas.{default_kind}
 use Rattle.chv_block.specs.Spellings.{AllAreOf, AreOf, IsOf}
 use Rattle.chv_catalog.specs.Checks.{is_state}
@@ -17,12 +18,11 @@ use Rattle.chv_expr.specs.Terms.{Term, value_at}
 use Rattle.chv_group.specs.Groups.{TakesArgument, argument_at, call_state, gives_state, grouped, inputs_of, is_empty, results, row_for, state_value}
 use Rattle.chv_group.specs.declared.call.AggCall.{AggCall}
 use Rattle.chv_group.specs.declared.call.Keyed.{Keyed}
-use Rattle.chv_query.proofs.SetSums.{call_state-fits, call_state-size, input_size, length-mapped, members-length, total-filter, total-groups, total-map, total-more, total-none, total-same}
+use Rattle.chv_query.proofs.SetSums.{call_state-fits, call_state-size, input_size, length-mapped, members-length, set_in, total, total-filter, total-groups, total-map, total-more, total-none, total-same}
 use Rattle.chv_query.proofs.ShapeTerms.{AllPlaced, term_kinds}
 use Rattle.chv_query.specs.Calls.{call_kind}
 use Rattle.chv_query.specs.Results.{arranged, outcome, output_row, passes}
 use Rattle.chv_query.specs.Results as made_of
-use Rattle.chv_query.specs.Sets.{SetsWithin, set_in, total}
 use Rattle.chv_query.proofs.TakesLemmas.{some_same}
 use Rattle.chv_types.proofs.MemberLemmas.{members-HaveSame, members-Rises}
 use Rattle.chv_types.specs.Aggregates.{result_of as kind_over}
@@ -40,6 +40,10 @@ use Rattle.chv_types.specs.declared.kind.Scalar.TheVariants as scalar
 use Rattle.chv_types.specs.declared.table.Column.{Column}
 use Rattle.chv_types.specs.declared.value.Value.{Value}
 use Rattle.chv_types.specs.declared.value.Value.TheVariants.{State}
+
+-- the states of each column have sets of so many values together at most
+abbrev pub SetsWithin : ℕ → List Kind → List (List Value) → Type 0
+SetsWithin most kinds rows = (place : ℕ) (of : Kind) → slice_get kinds place ≡ Some of → total (λ row. set_in of (value_at place row)) rows ≤ most
 
 -- states are those of a function that has a result over the values
 abbrev pub IsApt : Kind → Type 0

@@ -1,5 +1,5 @@
 -- What stands of a catalog where a definition is put behind the others.
-use Rattle.std.proofs.Common.{◌≡◌, ◌∙◌, ◌≤◌, ◌+◌, ◌-◌, ◌||◌, ℕ, suc, zero, Bool, false, not, List, [], ◌∷◌, ◌++◌, length, map, Option, None, Some, Ok, slice_get, refl, sym, ap, ap₂, subst, arith}
+use Rattle.std.proofs.Common.{◌≡◌, ◌∙◌, ◌≤◌, ◌+◌, ◌-◌, ◌||◌, ℕ, suc, zero, Bool, false, not, List, [], ◌∷◌, ◌++◌, length, map, Option, None, Some, Result, Ok, slice_get, refl, sym, ap, ap₂, subst, arith}
 use Rattle.std.specs.List.{All, list_any}
 use Rattle.std.specs.Option.{option_map}
 use Rattle.std.proofs.lemmas.List.{append-nil, map-append}
@@ -8,9 +8,10 @@ use Rattle.std.proofs.lemmas.Option.{slice_get-map, slice_get_within}
 use Rattle.chv_ast.specs.declared.refusal.Refusal.TheVariants.{UnknownTable}
 use Rattle.chv_ast.specs.declared.statement.Select.{Select}
 use Rattle.chv_ast.specs.declared.statement.Statement.{Statement}
+use Rattle.chv_ast.specs.declared.refusal.Refusal.{Refusal}
 use Rattle.chv_catalog.proofs.PathLemmas.{IsPath-append, target_of-append}
 use Rattle.chv_catalog.proofs.SchemaLemmas.{place_of-append-Some}
-use Rattle.chv_catalog.proofs.StepLemmas.{and_then-Ok, ok_same}
+use Rattle.chv_catalog.proofs.StepLemmas.{and_then-Ok}
 use Rattle.chv_catalog.specs.Checks.{has_repeat}
 use Rattle.chv_catalog.specs.Paths.{IsPath, end_of, link_of, links_of, target_of}
 use Rattle.chv_catalog.specs.Schemas.{Catalog, no_definitions, table_names, with_definition}
@@ -34,6 +35,9 @@ use Rattle.chv_query.specs.Derived.{columns_at, def_at, derived, divides_along, 
 use Rattle.chv_query.specs.Queries.{Asked, asked, asked_of}
 use Rattle.chv_query.specs.Tables.{table_of}
 use Rattle.chv_query.specs.Views.{fills, names_in}
+
+ok_same : {A : Type 0} (x y : A) → ◌≡◌ {A = Result A Refusal} (Ok x) (Ok y) → x ≡ y
+ok_same {A} x y same = cc
 
 there_is : {A : Type 0} (found : Option A) (a : A) → or_refuse UnknownTable found ≡ Ok a → found ≡ Some a
 there_is {A} None a is = absurd cc

@@ -1,15 +1,16 @@
 -- Rows that literals write are of their columns' kinds.
-use Rattle.std.proofs.Common.{◌≡◌, ◌+◌, ◌<◌, ℕ, suc, Bool, true, false, not, List, [], ◌∷◌, length, map, get_or, Option, None, Some, Ok, Err, if◌then◌else◌, nat_eq, nat_lt, refl, ap, subst, ◌∙◌, arith, eqb-true}
+use Rattle.std.proofs.Common.{◌≡◌, ◌+◌, ◌<◌, ℕ, suc, Bool, true, false, not, List, [], ◌∷◌, length, map, get_or, Option, None, Some, Result, Ok, Err, if◌then◌else◌, nat_eq, nat_lt, refl, ap, subst, ◌∙◌, arith, eqb-true}
 use Rattle.std.specs.List.{All, cons_option}
 use Rattle.std.proofs.lemmas.List.Elements.{All-cons, All-head, All-nil, All-tail}
 use Rattle.std.proofs.lemmas.Option.{slice_get-get_or}
 use Rattle.chv_ast.specs.declared.expr.Literal.{Literal}
 use Rattle.chv_ast.specs.declared.expr.Literal.TheVariants as literal
 use Rattle.chv_ast.specs.declared.refusal.Refusal.TheVariants.{LimitPassed, WrongWidth}
+use Rattle.chv_ast.specs.declared.refusal.Refusal.{Refusal}
 use Rattle.chv_block.proofs.DefaultLemmas.{default_kind}
 use Rattle.chv_block.specs.Spellings.{IsOf, AreOf, AllAreOf, IsSmall}
 use Rattle.chv_catalog.proofs.SchemaLemmas.{place_of-within}
-use Rattle.chv_catalog.proofs.StepLemmas.{and_then-Ok, ok_same, refuse_if-Ok}
+use Rattle.chv_catalog.proofs.StepLemmas.{and_then-Ok, refuse_if-Ok}
 use Rattle.chv_catalog.specs.Checks.{places_of}
 use Rattle.chv_types.specs.Fits.{IsOfScalar}
 use Rattle.chv_types.specs.Names.{place_of}
@@ -105,6 +106,10 @@ scalar_small plain (value.State spelling) of = absurd of
 pub value_small : (of : Kind) (l : Literal) (v : Value) → value_for of l ≡ Ok v → IsSmall v
 value_small (kind.Plain plain) l v is = scalar_small plain v (literal_kind plain l v is)
 value_small (kind.State agg arg) l v is = absurd cc
+
+-- what one step answers
+ok_same : {A : Type 0} (x y : A) → ◌≡◌ {A = Result A Refusal} (Ok x) (Ok y) → x ≡ y
+ok_same {A} x y same = cc
 
 -- places of so many columns
 abbrev pub AreWithin : ℕ → List ℕ → Type 0

@@ -19,9 +19,9 @@ use Rattle.chv_expr.specs.Terms.{Term, column_at, constant, term_of, value_at}
 use Rattle.chv_group.specs.Groups.{TakesArgument, argument_at, grouped, takes_states}
 use Rattle.chv_group.specs.declared.call.AggCall.{AggCall}
 use Rattle.chv_group.specs.declared.call.Keyed.{Keyed}
-use Rattle.chv_query.proofs.GroupFits.{AllAreOf-from, AllAreOf-to, AllFedAt, AllGive, AllGive-drop, AllGive-typed, AllOf-take, IsApt, IsFedAt, IsWell, arranged-well, column_kinds, grouped-length, grouped-well, made, made-all, made-length, plain_apt, size_at, slice_get-mapped, state-total, value_at-gives}
+use Rattle.chv_query.proofs.GroupFits.{AllAreOf-from, AllAreOf-to, AllFedAt, AllGive, AllGive-drop, AllGive-typed, AllOf-take, IsApt, IsFedAt, IsWell, SetsWithin, arranged-well, column_kinds, grouped-length, grouped-well, made, made-all, made-length, plain_apt, size_at, slice_get-mapped, state-total, value_at-gives}
 use Rattle.chv_query.proofs.GrowthLemmas.{All-at}
-use Rattle.chv_query.proofs.SetSums.{input_size, input_size-state, input_size-value, length-mapped, total-length, total-map, total-same}
+use Rattle.chv_query.proofs.SetSums.{input_size, input_size-state, input_size-value, length-mapped, set_in, total, total-length, total-map, total-same}
 use Rattle.chv_query.proofs.ShapeTerms.{AllOn, IsLaid, IsLaidOut, IsOn, shape_of-laid, term_kinds}
 use Rattle.chv_query.proofs.TakesLemmas.{AreFed, FeedsShape, IsFed, ok_same, shape_of-feeds}
 use Rattle.chv_query.specs.Outputs.{filter_of}
@@ -29,7 +29,6 @@ use Rattle.chv_query.specs.Queries.{Asked, asked_of, limit_of, result_of, sorts_
 use Rattle.chv_query.specs.Results.{arranged, keyed, shaped}
 use Rattle.chv_query.specs.Shapes.{shape_of}
 use Rattle.chv_query.specs.declared.groups.Groups.{Groups}
-use Rattle.chv_query.specs.Sets.{SetsWithin, set_in, total}
 use Rattle.chv_types.specs.Aggregates.{result_of as kind_over}
 use Rattle.chv_types.specs.Fits.{IsOfScalar}
 use Rattle.chv_types.specs.declared.kind.Kind.{Kind}

@@ -4,11 +4,11 @@ use Rattle.std.proofs.lemmas.List.Elements.{All-head, All-tail}
 use Rattle.std.specs.List.{All, filter}
 use Rattle.std.specs.Ordering.{is_eq}
 use Rattle.std.specs.declared.cmp.Ordering.{Ordering}
-use Rattle.chv_agg.proofs.JoinFits.{set_size-join, set_size-unit}
+use Rattle.chv_agg.proofs.JoinFits.{set_size, set_size-join, set_size-unit}
 use Rattle.chv_agg.proofs.StateFrontLemmas.{state_in-fits}
 use Rattle.chv_agg.proofs.StateLemmas.{FitsState-counted}
 use Rattle.chv_agg.specs.StateBytes.{state_in}
-use Rattle.chv_agg.specs.States.{FitsState, IsOver, is_signed, join, merged, one_like, set_size, unit_of}
+use Rattle.chv_agg.specs.States.{FitsState, IsOver, is_signed, join, merged, one_like, unit_of}
 use Rattle.chv_agg.specs.Tallies.{IsCounted}
 use Rattle.chv_agg.specs.declared.any_agg.AnyAgg.{AnyAgg}
 use Rattle.chv_agg.specs.declared.any_agg.AnyAgg.TheVariants.{Count, SumU, SumI, Least, Greatest, Uniq}
@@ -21,15 +21,20 @@ use Rattle.chv_types.specs.Order.{bytes, row_cmp}
 use Rattle.chv_types.specs.OrderLaws.{row_cmp-IsAntisymmetric}
 use Rattle.chv_types.specs.declared.aggregate.AggName.{AggName}
 use Rattle.chv_types.specs.declared.aggregate.AggName.TheVariants as agg
+use Rattle.chv_types.specs.declared.kind.Kind.{Kind}
 use Rattle.chv_types.specs.declared.kind.Kind.TheVariants as kind
 use Rattle.chv_types.specs.declared.kind.Scalar.{Scalar}
 use Rattle.chv_types.specs.declared.value.Value.{Value}
-use Rattle.chv_query.specs.Sets.{set_in, total}
 
 -- a list is as long where something is made of each item
 pub length-mapped : {A B : Type 0} (f : A → B) (xs : List A) → length (map f xs) ≡ length xs
 length-mapped f [] = refl
 length-mapped f (x ∷ xs) = ap suc (length-mapped f xs)
+
+-- the numbers of items together
+abbrev pub total : {A : Type 0} → (A → ℕ) → List A → ℕ
+total f [] = 0
+total f (x ∷ xs) = f x + total f xs
 
 module _ {A : Type 0} where
   pub total-map : {B : Type 0} (f : A → ℕ) (g : B → A) (xs : List B) → total f (map g xs) ≡ total (λ x. f (g x)) xs
@@ -61,7 +66,12 @@ module _ {A : Type 0} where
   total-filter p f [] = omega arith
   total-filter p f (x ∷ xs) = kept f x (p x) (filter p xs) xs (total-filter p f xs)
 
--- how many different values the state has that an argument of a call stands for
+-- how many different values the state has that a value of a kind spells
+abbrev pub set_in : Kind → Value → ℕ
+set_in (kind.Plain plain) value = 0
+set_in (kind.State function arg) value = set_size (state_in function arg (bytes value))
+
+-- and that an argument of a call stands for
 abbrev pub input_size : AggCall → Value → ℕ
 input_size call value = set_size (input_state call value)
 

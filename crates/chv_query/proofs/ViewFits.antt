@@ -8,11 +8,11 @@ use Rattle.std.proofs.lemmas.Slice.Eq.{bytes_eq-Decides}
 use Rattle.std.specs.List.{All, list_any}
 use Rattle.std.specs.Option.{option_and_then, unwrap_or}
 use Rattle.std.specs.Str.{bytes_eq}
-use Rattle.chv_agg.proofs.JoinFits.{set_size-state_in}
+use Rattle.chv_agg.proofs.JoinFits.{set_size, set_size-state_in}
 use Rattle.chv_agg.proofs.StateFrontLemmas.{state_in-fits, state_in-spelled}
 use Rattle.chv_agg.specs.Plain.{scalar_code}
 use Rattle.chv_agg.specs.StateBytes.{agg_number, state_bytes, state_in}
-use Rattle.chv_agg.specs.States.{FitsState, set_size}
+use Rattle.chv_agg.specs.States.{FitsState}
 use Rattle.chv_agg.specs.declared.any_agg.AnyAgg.{AnyAgg}
 use Rattle.chv_agg.specs.declared.any_agg.AnyAgg.TheVariants.{Count, SumU, SumI, Least, Greatest, Uniq}
 use Rattle.chv_ast.specs.declared.statement.Select.{Select}
@@ -25,14 +25,13 @@ use Rattle.chv_catalog.specs.declared.table_def.TableDef.{TableDef}
 use Rattle.chv_expr.proofs.TermFits.{AllOf, value_at-of}
 use Rattle.chv_expr.specs.Terms.{value_at}
 use Rattle.chv_part.specs.Books.{MAX_ROWS}
-use Rattle.chv_query.proofs.GroupFits.{AllAreOf-from, AllAreOf-to, IsApt, column_kinds, slice_get-mapped}
+use Rattle.chv_query.proofs.GroupFits.{AllAreOf-from, AllAreOf-to, IsApt, SetsWithin, column_kinds, slice_get-mapped}
 use Rattle.chv_query.proofs.GrowthLemmas.{All-at}
 use Rattle.chv_query.proofs.QueryFits.{plain_same, result_of-fits, result_of-length}
-use Rattle.chv_query.proofs.SetSums.{length-mapped, total-map, total-more, total-none, total-same}
+use Rattle.chv_query.proofs.SetSums.{length-mapped, set_in, total, total-map, total-more, total-none, total-same}
 use Rattle.chv_query.specs.Derived.{put_to, value_to, viewed}
 use Rattle.chv_query.specs.Queries.{Asked, asked_of, result_of}
 use Rattle.chv_query.specs.Views.{fills, fills_place, is_wider, kind_eq, lies_within, names_in, widens_to}
-use Rattle.chv_query.specs.Sets.{SetsWithin, set_in, total}
 use Rattle.chv_query.proofs.DefinitionLemmas.{none_there}
 use Rattle.chv_types.specs.Fits.{IsOfScalar}
 use Rattle.chv_types.specs.Kinds.{LiesIn, range_of}

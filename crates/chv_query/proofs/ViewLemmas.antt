@@ -1,11 +1,12 @@
 -- What a definition of a view says.
-use Rattle.std.proofs.Common.{◌≡◌, ◌<◌, ◌≤◌, ℕ, false, not, nat_lt, ◌∷◌, [], ◌++◌, length, None, is_some, Ok, subst}
+use Rattle.std.proofs.Common.{◌≡◌, ◌<◌, ◌≤◌, ℕ, false, not, nat_lt, ◌∷◌, [], ◌++◌, length, None, is_some, Result, Ok, subst}
 use Rattle.std.specs.List.{list_any}
 use Rattle.std.proofs.lemmas.Bool.{ltb-true, ltb-false}
 use Rattle.chv_ast.specs.declared.refusal.Refusal.TheVariants.{LimitPassed, NameTaken, TooManyPaths, TypeMismatch, UnknownColumn, ViewCycle}
 use Rattle.chv_ast.specs.declared.statement.CreateView.{CreateView}
 use Rattle.chv_ast.specs.declared.statement.Statement.TheVariants as statement
-use Rattle.chv_catalog.proofs.StepLemmas.{and_then-Ok, ok_same, refuse_if-Ok}
+use Rattle.chv_ast.specs.declared.refusal.Refusal.{Refusal}
+use Rattle.chv_catalog.proofs.StepLemmas.{and_then-Ok, refuse_if-Ok}
 use Rattle.chv_catalog.specs.Checks.{has_repeat, is_unknown}
 use Rattle.chv_catalog.specs.Paths.{links_of, passes_limits, reaches}
 use Rattle.chv_catalog.specs.Schemas.{Catalog, definitions_in, names_of}
@@ -17,6 +18,9 @@ use Rattle.chv_query.specs.Queries.{Asked, asked_of}
 use Rattle.chv_query.specs.Tables.{table_of}
 use Rattle.chv_query.specs.Views.{defined_view, fills, names_in, view_with}
 use Rattle.chv_query.proofs.DefinitionLemmas.{negated, none_there}
+
+ok_same : {A : Type 0} (x y : A) → ◌≡◌ {A = Result A Refusal} (Ok x) (Ok y) → x ≡ y
+ok_same {A} x y same = cc
 
 -- what holds of each view that a statement makes beside what is defined
 pub record PassedView (catalog : Catalog) (made : CreateView) (def : ViewDef) : Type 0 where

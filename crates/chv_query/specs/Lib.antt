@@ -10,7 +10,6 @@ pub mod Outputs
 pub mod Plans
 pub mod Queries
 pub mod Results
-pub mod Sets
 pub mod Shapes
 pub mod Shown
 pub mod Tables

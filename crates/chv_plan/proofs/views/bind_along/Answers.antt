@@ -1,5 +1,5 @@
 -- One view more on the path is bound.
-use Rattle.std.proofs.Common.{◌≡◌, ◌<◌, length, get_or, subst, take, arith}
+use Rattle.std.proofs.Common.{◌≡◌, ◌<◌, length, subst, take, arith}
 use Rattle.std.specs.List.{All}
 use Rattle.std.proofs.lemmas.List.{take_all}
 use Rattle.std.proofs.lemmas.List.Elements.{All-get_or, All-nil}

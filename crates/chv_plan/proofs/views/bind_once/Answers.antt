@@ -1,5 +1,5 @@
 -- The view is bound already, or it is bound now.
-use Rattle.std.proofs.Common.{◌≡◌, ◌∙◌, ◌<◌, length, sym, arith}
+use Rattle.std.proofs.Common.{◌∙◌, ◌<◌, length, sym, arith}
 use Rattle.chv_plan.proofs.BoundLemmas.{BindsMore-one, BindsMore-same, already_there, bound_there}
 use Rattle.chv_plan.proofs.views.bind_once.Goals as goal
 

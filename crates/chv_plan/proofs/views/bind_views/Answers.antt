@@ -1,5 +1,5 @@
 -- The views on a path more are bound.
-use Rattle.std.proofs.Common.{◌≡◌, ◌∙◌, ◌<◌, length, subst, take, arith}
+use Rattle.std.proofs.Common.{◌≡◌, ◌∙◌, subst, take, arith}
 use Rattle.std.specs.List.{All}
 use Rattle.std.proofs.lemmas.List.{take_all}
 use Rattle.std.proofs.lemmas.List.Elements.{All-nil}
