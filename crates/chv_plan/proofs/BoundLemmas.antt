@@ -58,8 +58,11 @@ module _ (catalog : Catalog) where
 
   module _ (bound new : List (Option BoundView)) (view : ℕ) (one : BoundView) (within : view < length bound) (is : new ≡ set bound view (Some one)) where
     -- one more is bound
+    stands : slice_get new view ≡ Some (Some one)
+    stands = ap (λ (b : List (Option BoundView)). slice_get b view) is ∙ slice_get-set_same bound view (Some one) within
+
     pub bound_there : IsThere new view
-    bound_there = (one, ap (λ (b : List (Option BoundView)). slice_get b view) is ∙ slice_get-set_same bound view (Some one) within)
+    bound_there = (one, stands)
 
     stays : (other : ℕ) → other ≢ view → slice_get new other ≡ slice_get bound other
     stays other differs = ap (λ (b : List (Option BoundView)). slice_get b other) is ∙ slice_get-set_other bound view other (Some one) differs
@@ -74,7 +77,7 @@ module _ (catalog : Catalog) where
         are = λ other def found at there.
             elim (cases_eq other view) as (λ _. IsBound catalog def found) [
               | inl same ↦
-                  let it : one ≡ found = one_item one found (sym bound_there.1 ∙ ap (λ (v : ℕ). slice_get new v) (sym same) ∙ there) in
+                  let it : one ≡ found = one_item one found (sym stands ∙ ap (λ (v : ℕ). slice_get new v) (sym same) ∙ there) in
                   subst (IsBound catalog def) it (binds def (ap (λ (v : ℕ). slice_get catalog.views v) (sym same) ∙ at))
               | inr differs ↦ old.are other def found at (sym (stays other differs) ∙ there)
             ];

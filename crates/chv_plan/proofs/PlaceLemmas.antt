@@ -11,8 +11,7 @@ use Rattle.chv_catalog.proofs.Positions.{is_some-position}
 use Rattle.chv_catalog.proofs.SchemaLemmas.{place_of-within}
 use Rattle.chv_catalog.specs.Checks.{has_repeat, is_unknown, places_of}
 use Rattle.chv_types.specs.Names.{place_of}
-use Rattle.chv_query.specs.Views.{names_in}
-use Rattle.chv_plan.specs.Places.{ArePlaces}
+use Rattle.chv_plan.specs.Places.{ArePlaces, names_in}
 use Rattle.chv_types.specs.declared.table.Column.{Column}
 
 -- a column at a place has the name of that place

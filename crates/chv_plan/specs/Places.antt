@@ -10,7 +10,6 @@ use Rattle.chv_types.specs.declared.kind.Kind.{Kind}
 use Rattle.chv_types.specs.declared.table.Column.{Column}
 use Rattle.chv_types.specs.declared.value.Value.{Value}
 use Rattle.chv_query.specs.Plans.{filled_names, kinds_at, value_for}
-use Rattle.chv_query.specs.Views.{names_in}
 
 -- places of so many columns, each of them once
 abbrev pub ArePlaces : ℕ → List ℕ → Type 0
@@ -20,6 +19,9 @@ ArePlaces columns (place ∷ places) =
 
 abbrev pub kinds_in : List Column → List Kind
 kinds_in columns = map (λ column. column.kind) columns
+
+abbrev pub names_in : List Column → List (List ℕ)
+names_in columns = map (λ column. column.name) columns
 
 -- the places of columns with these names, each of which is a column's, once, and none a state's
 abbrev pub checked_places : List Column → List (List ℕ) → Result (List ℕ) Refusal

@@ -15,8 +15,8 @@ loop-path-init c = record {
 
 pub bind_along-requires-clause-there : goal.bind_along-requires-clause-there
 bind_along-requires-clause-there c =
-    path_there c.args.schema.now.catalog c.args.table c.as_slice.result.now c.loop-path.path-index c.as_slice-2.result.now c.path-item.result
-    (c.as_slice.ensures ∙ c.in_ok-paths.ensures) c.loop-path-test.true (c.as_slice-2.ensures ∙ c.path-item.is)
+    path_there c.args.schema.now.catalog c.args.table c.as_slice-path-items.result.now c.loop-path.path-index c.as_slice.result.now c.path-item.result
+    (c.as_slice-path-items.ensures ∙ c.in_ok-paths.ensures) c.loop-path-test.true (c.as_slice.ensures ∙ c.path-item.is)
 
 pub loop-path-preserved : goal.loop-path-preserved
 loop-path-preserved c =
@@ -24,11 +24,11 @@ loop-path-preserved c =
     record {
       bound = more.bound;
       there =
-          AreThere-more c.args.schema.now.catalog c.loop-path.bound.items c.bind_along.new.bound.items c.as_slice.result.now c.loop-path.path-index c.as_slice-2.result.now c.path-item.result
-          more c.loop-path.invariant.there c.loop-path-test.true (c.as_slice-2.ensures ∙ c.path-item.is) c.in_ok-bind_along.ensures.there;
+          AreThere-more c.args.schema.now.catalog c.loop-path.bound.items c.bind_along.new.bound.items c.as_slice-path-items.result.now c.loop-path.path-index c.as_slice.result.now c.path-item.result
+          more c.loop-path.invariant.there c.loop-path-test.true (c.as_slice.ensures ∙ c.path-item.is) c.in_ok-bind_along.ensures.there;
     }
 
 pub returns-clause-all : goal.returns-clause-all
 returns-clause-all c =
-    let whole : take c.loop-path.path-index c.as_slice.result.now ≡ c.as_slice.result.now = take_all c.loop-path.path-index c.as_slice.result.now (omega (arith, c.loop-path-test.false)) in
-    subst (AreThere c.loop-path.bound.items) (whole ∙ c.as_slice.ensures ∙ c.in_ok-paths.ensures) c.loop-path.invariant.there
+    let whole : take c.loop-path.path-index c.as_slice-path-items.result.now ≡ c.as_slice-path-items.result.now = take_all c.loop-path.path-index c.as_slice-path-items.result.now (omega (arith, c.loop-path-test.false)) in
+    subst (AreThere c.loop-path.bound.items) (whole ∙ c.as_slice-path-items.ensures ∙ c.in_ok-paths.ensures) c.loop-path.invariant.there
