@@ -15,7 +15,7 @@ returns-then-is_some-clause-more c = BindsMore-same c.args.schema.now.catalog c.
 pub returns-then-is_some-clause-there : goal.returns-then-is_some-clause-there
 returns-then-is_some-clause-there c =
     let within : c.args.view < length c.args.bound.now.items = omega (arith, c.requires.last, c.requires.bound.places) in
-    already_there c.args.bound.now.items c.args.view c.index.result.now within (ap is_some (sym c.index.ensures) ∙ c.is_some.ensures ∙ c.if-is_some.true)
+    already_there c.args.bound.now.items c.args.view c.index.result.now within (ap is_some (sym c.index.ensures) ∙ sym c.is_some.ensures ∙ c.if-is_some.true)
 
 pub returns-clause-more : goal.returns-clause-more
 returns-clause-more c =
