@@ -1,6 +1,7 @@
 // The checks of a definition, in order.
 ghost use Rattle.std.specs.Prelude.{◌≡◌, ◌≤◌, length, is_some, Ok, Err, OnOk, IfOk, IfErr};
 ghost use Rattle.chv_ast.specs.declared.refusal.Refusal.{Refusal};
+ghost use Rattle.chv_print.specs.StatementTexts.{statement_text};
 ghost use Rattle.chv_define.specs.Checks.{checked_free, checked_key, checked_names, checked_text};
 ghost use Rattle.chv_query.specs.Definitions as spec;
 ghost use Rattle.chv_types.specs.Names.{place_of};
@@ -76,9 +77,10 @@ pub fn check_key(
     )
 }
 
-/// The canonical text of a table is 1,048,576 bytes long at most.
+/// The canonical text of a table, which is 1,048,576 bytes long at most.
 #[tactic(auto, unfolding(crate::specs::Checks::checked_text))]
-pub fn check_text(alloc: Global, made: &CreateTable) -> Result<(), StatementFault>
+pub fn short_text(alloc: Global, made: &CreateTable) -> Result<Vec<u8>, StatementFault>
+    ensures text { IfOk result (λ text. text.items ≡ statement_text (Statement.CreateTable made.now)) }
     ensures short { OnOk result (checked_text (Statement.CreateTable made.now) ≡ Ok tt) }
     ensures long { IfErr result (λ fault. (refusal : Refusal) → fault ≡ StatementFault.Refused refusal → checked_text (Statement.CreateTable made.now) ≡ Err refusal) }
 {
@@ -86,12 +88,13 @@ pub fn check_text(alloc: Global, made: &CreateTable) -> Result<(), StatementFaul
     if text.len() > MAX_TEXT {
         return Err(StatementFault::Refused(Refusal::LimitPassed));
     }
-    Ok(())
+    Ok(text)
 }
 
-/// The canonical text of a view is 1,048,576 bytes long at most.
+/// The canonical text of a view, which is 1,048,576 bytes long at most.
 #[tactic(auto, unfolding(crate::specs::Checks::checked_text))]
-pub fn check_view_text(alloc: Global, made: &CreateView) -> Result<(), StatementFault>
+pub fn short_view_text(alloc: Global, made: &CreateView) -> Result<Vec<u8>, StatementFault>
+    ensures text { IfOk result (λ text. text.items ≡ statement_text (Statement.CreateView made.now)) }
     ensures short { OnOk result (checked_text (Statement.CreateView made.now) ≡ Ok tt) }
     ensures long { IfErr result (λ fault. (refusal : Refusal) → fault ≡ StatementFault.Refused refusal → checked_text (Statement.CreateView made.now) ≡ Err refusal) }
 {
@@ -99,7 +102,7 @@ pub fn check_view_text(alloc: Global, made: &CreateView) -> Result<(), Statement
     if text.len() > MAX_TEXT {
         return Err(StatementFault::Refused(Refusal::LimitPassed));
     }
-    Ok(())
+    Ok(text)
 }
 
 /// How many ids are kept, where a number is written: 100,000 at most.

@@ -1,38 +1,54 @@
 // CREATE MATERIALIZED VIEW.
 ghost use Rattle.std.specs.Prelude.{◌≡◌, ◌≤◌, length, Ok, Err, IfOk, IfErr};
 ghost use Rattle.chv_ast.specs.declared.refusal.Refusal.{Refusal};
+ghost use Rattle.chv_print.specs.StatementTexts.{statement_text};
 ghost use Rattle.chv_define.specs.Checks.{checked_paths, linked, number_in};
 ghost use Rattle.chv_query.specs.Views.{defined_view, view_with};
 
-use crate::checks::{check_free, check_view_text, refuse_if};
+use crate::Defined;
+use crate::checks::{check_free, refuse_if, short_view_text};
 use crate::outputs::check_select;
-use chv_ast::{CreateView, Name, Refusal};
+use chv_ast::{CreateView, Name, Refusal, Statement};
 use chv_catalog::{Link, Schema, StatementFault, ViewDef};
 use std::alloc::Global;
 
-/// The view that a CREATE MATERIALIZED VIEW statement defines beside the tables and views that stand. It is refused by the
-/// first check that holds.
+/// The view that a CREATE MATERIALIZED VIEW statement defines beside the tables and views that stand, with the statement's
+/// text. It is refused by the first check that holds.
 pub fn define_view(
     alloc: Global,
     schema: &Schema,
     made: CreateView,
-) -> Result<ViewDef, StatementFault>
-    ensures defined { IfOk result (λ def. defined_view schema.now.catalog made ≡ Ok def) }
+) -> Result<Defined<ViewDef>, StatementFault>
+    ensures defined { IfOk result (λ view. defined_view schema.now.catalog made ≡ Ok view.def) }
+    ensures text { IfOk result (λ view. view.text.items ≡ statement_text (Statement.CreateView made)) }
     ensures refused { IfErr result (λ fault. (refusal : Refusal) → fault ≡ StatementFault.Refused refusal → defined_view schema.now.catalog made ≡ Err refusal) }
 {
-    let link = check_view(alloc, schema, &made)?;
+    let PassedView { link, text } = check_view(alloc, schema, &made)?;
     let CreateView { name, select, .. } = made;
-    Ok(ViewDef {
+    let def = ViewDef {
         name,
         source: link.source,
         target: link.target,
         select,
-    })
+    };
+    Ok(Defined { def, text })
 }
 
-// The tables that a view links, or the first check that refuses it.
-fn check_view(alloc: Global, schema: &Schema, made: &CreateView) -> Result<Link, StatementFault>
-    ensures passed { IfOk result (λ link. defined_view schema.now.catalog made.now ≡ Ok (view_with made.now link.source link.target)) }
+// The tables that a view links, and the canonical text of its statement.
+#[derive(Drop)]
+struct PassedView {
+    link: Link,
+    text: Vec<u8>,
+}
+
+// What the checks of a view find, or the first check that refuses it.
+fn check_view(
+    alloc: Global,
+    schema: &Schema,
+    made: &CreateView,
+) -> Result<PassedView, StatementFault>
+    ensures passed { IfOk result (λ view. defined_view schema.now.catalog made.now ≡ Ok (view_with made.now view.link.source view.link.target)) }
+    ensures text { IfOk result (λ view. view.text.items ≡ statement_text (Statement.CreateView made.now)) }
     ensures refused { IfErr result (λ fault. (refusal : Refusal) → fault ≡ StatementFault.Refused refusal → defined_view schema.now.catalog made.now ≡ Err refusal) }
 {
     check_free(schema, &made.name)?;
@@ -40,8 +56,8 @@ fn check_view(alloc: Global, schema: &Schema, made: &CreateView) -> Result<Link,
     let target = schema.table_def(link.target);
     check_select(alloc, schema, &made.select, &target.columns)?;
     check_paths(schema, link)?;
-    check_view_text(alloc, made)?;
-    Ok(link)
+    let text = short_view_text(alloc, made)?;
+    Ok(PassedView { link, text })
 }
 
 // The tables that a view links, which both stand.

@@ -1,18 +1,19 @@
 -- A table is made: what that does to the moment that a store is at, to what is held, and to what a crash leaves.
-use Rattle.std.proofs.Common.{◌≡◌, ◌⊎◌, inl, inr, ℕ, zero, suc, ◌+◌, ◌-◌, ◌<◌, ◌≤◌, Bool, false, List, [], ◌∷◌, ◌++◌, length, map, get_or, Ok, Err, OnOk, refl, sym, ap, subst, ◌∙◌, arith}
+use Rattle.std.proofs.Common.{◌≡◌, ◌⊎◌, inl, inr, ℕ, zero, suc, ◌+◌, ◌-◌, ◌<◌, ◌≤◌, Bool, true, false, List, [], ◌∷◌, ◌++◌, length, map, get_or, Ok, Err, OnOk, refl, sym, ap, subst, ◌∙◌, arith}
 use Rattle.std.specs.Prelude.{Result, IsErrOf}
 use Rattle.std.proofs.lemmas.Bool.{cases_eq}
 use Rattle.std.proofs.lemmas.List.{get_or_past, length-append, length-map, map_push}
 use Rattle.chv_ast.specs.declared.refusal.Refusal.{Refusal}
 use Rattle.chv_ast.specs.declared.statement.CreateTable.{CreateTable}
 use Rattle.chv_ast.specs.declared.statement.Statement.TheVariants as statement
+use Rattle.chv_ast.specs.Formed.{FormedTable}
 use Rattle.chv_catalog.proofs.SchemaLemmas.{same_tables}
 use Rattle.chv_catalog.specs.Schemas.{Catalog, with_definition}
 use Rattle.chv_catalog.specs.declared.definition.Definition.TheVariants.{Table}
 use Rattle.chv_catalog.specs.declared.table_def.TableDef.{TableDef}
 use Rattle.chv_commit.specs.Replays.{State, no_state}
 use Rattle.chv_commit.specs.declared.commit.Commit.{Commit}
-use Rattle.chv_query.specs.Accepted.{Accepted, IsAccepted, catalog_of, catalog_payload}
+use Rattle.chv_query.specs.Accepted.{Accepted, IsAccepted, catalog_of, catalog_payload, is_built_table}
 use Rattle.chv_query.specs.Definitions.{defined}
 use Rattle.chv_query.proofs.AcceptedLemmas.{IsSchema-push, catalog_of-push}
 use Rattle.chv_part.specs.Books.{Book, TableForm, no_book}
@@ -58,14 +59,18 @@ abbrev pub made : CreateTable → TableDef → Accepted
 made create def = record { statement = statement.CreateTable create; definition = Table def }
 
 -- what the store's call did
-pub record HasCreated (tells : Type 0) (result : Result (Unit {0}) PutFault) (was is : Store) (create : CreateTable) (def : TableDef) (old new : Outside) : Type 0 where
+pub record HasCreated (tells : Type 0) (result : Result (Unit {0}) PutFault) (was is : Store) (text : List ℕ) (def : TableDef) (old new : Outside) : Type 0 where
   pub created : tells → (payloads : List (List ℕ)) (books : ℕ → Book) → HoldsBooks was old.files payloads books
-      → Turns result (HoldsBooks is new.files (payloads ++ catalog_payload (made create def) ∷ []) (with_book (length was.schema.catalog.tables + 1) no_book books)) (StandsFor payloads (forms_of was) books)
-      (StandsFor (payloads ++ catalog_payload (made create def) ∷ []) (forms_of was ++ form_of def ∷ []) (with_book (length was.schema.catalog.tables + 1) no_book books)) old new
+      → Turns result (HoldsBooks is new.files (payloads ++ text ∷ []) (with_book (length was.schema.catalog.tables + 1) no_book books)) (StandsFor payloads (forms_of was) books)
+      (StandsFor (payloads ++ text ∷ []) (forms_of was ++ form_of def ∷ []) (with_book (length was.schema.catalog.tables + 1) no_book books)) old new
   pub logged : tells → (payloads : List (List ℕ)) (commits : ℕ → List Commit) → HoldsLogs was old.files payloads commits → (old.files (table_log (length was.schema.catalog.tables + 1))).most ≤ 1
-      → OnOk result (HoldsLogs is new.files (payloads ++ catalog_payload (made create def) ∷ []) (with_one (length was.schema.catalog.tables + 1) [] commits))
+      → OnOk result (HoldsLogs is new.files (payloads ++ text ∷ []) (with_one (length was.schema.catalog.tables + 1) [] commits))
   pub held : OnOk result ((is.schema.catalog ≡ with_definition (Table def) was.schema.catalog) × (states_of is ≡ states_of was ++ no_state ∷ []))
   pub keeps : ChangesLogs tells (IsErrOf result put.Failed) (length was.schema.catalog.tables + 1) old new
+
+-- a table that is defined is one that a statement makes
+pub makes_table : (catalog : Catalog) (create : CreateTable) (def : TableDef) → FormedTable create → is_built_table create ≡ true → defined catalog create ≡ Ok def → MakesDefinition catalog (statement.CreateTable create) (Table def)
+makes_table catalog create def formed built is = record { built = built; passes = record { formed = formed; defines = is } }
 
 -- a table that is not defined is refused
 pub create_refused : (store : Store) (create : CreateTable) (refuses : Refusal) → defined store.schema.catalog create ≡ Err refuses → Asks (create_wish create) store (Err refuses)
@@ -96,7 +101,7 @@ get_or-default (x ∷ xs) zero d = refl
 get_or-default (x ∷ xs) (suc i) d = get_or-default xs i d
 
 module _ (tells : Type 0) (client : ℕ) (result : Result (Unit {0}) PutFault) (was is : Store) (create : CreateTable) (def : TableDef) (old new : Outside) (usable : IsUsable tells was old)
-    (makes : MakesDefinition was.schema.catalog (statement.CreateTable create) (Table def)) (call : HasCreated tells result was is create def old new) where
+    (makes : MakesDefinition was.schema.catalog (statement.CreateTable create) (Table def)) (call : HasCreated tells result was is (catalog_payload (made create def)) def old new) where
   abbrev accepted : Accepted
   accepted = made create def
 

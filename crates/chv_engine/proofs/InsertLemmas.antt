@@ -1,14 +1,11 @@
 -- What comes of an insert: it is refused for want of room; or its deliveries are made, and a reply says how many were written.
 use Rattle.std.proofs.Common.{◌≡◌, ℕ, ◌+◌, ◌-◌, ◌≤◌, Bool, false, not, List, [], ◌∷◌, length, map, Ok, Err, IsErr, refl, sym, ap, subst, ◌∙◌, arith}
 use Rattle.std.specs.Prelude.{Result}
-use Rattle.std.specs.List.{All}
 use Rattle.chv_ast.specs.declared.refusal.Refusal.{Refusal}
 use Rattle.chv_ast.specs.declared.refusal.Refusal.TheVariants.{LimitPassed}
 use Rattle.chv_ast.specs.declared.statement.Insert.{Insert}
-use Rattle.chv_catalog.specs.Schemas.{Catalog, kinds_of}
-use Rattle.chv_catalog.specs.declared.table_def.TableDef.{TableDef}
+use Rattle.chv_catalog.specs.Schemas.{Catalog}
 use Rattle.chv_commit.specs.Replays.{MAX_ENTRIES}
-use Rattle.chv_part.specs.Books.{TableForm}
 use Rattle.chv_query.specs.Plans.{planned}
 use Rattle.chv_plan.specs.Deliveries.{DeliversAll}
 use Rattle.chv_plan.specs.declared.delivery.Delivery.{Delivery as HeldDelivery}
@@ -17,15 +14,11 @@ use Rattle.chv_site.specs.Outside.{Outside}
 use Rattle.chv_site.specs.declared.fault.Failed.{Failed}
 use Rattle.chv_site.proofs.Moments.{weakened}
 use Rattle.chv_store.specs.Calls.{HoldsSame}
-use Rattle.chv_store.specs.Stores.{IsHeldAs, IsTable, IsUsable, IsWithin}
+use Rattle.chv_store.specs.Stores.{IsTable, IsUsable}
 use Rattle.chv_store.specs.declared.store.Store.{Store}
-use Rattle.chv_store.proofs.EachTableLemmas.{each-def}
-use Rattle.chv_table.specs.Tables.{IsTableOf}
 use Rattle.chv_table.specs.declared.fault.PutFault.TheVariants as put
-use Rattle.chv_table.specs.declared.table.Table.{Table}
 use Rattle.chv_text.specs.Replies.{insert_line}
 use Rattle.chv_types.specs.Steps.{and_then, refuse_if}
-use Rattle.chv_types.specs.declared.kind.Kind.{Kind}
 use Rattle.chv_history.specs.Crashes.{IsLeftBy}
 use Rattle.chv_history.specs.Events.{Moment, Plan}
 use Rattle.chv_history.specs.Runs.{delivery_event, task_events, written_of}
@@ -40,17 +33,6 @@ use Rattle.chv_engine.specs.declared.fault.RunFault.TheVariants.{Disk}
 use Rattle.chv_engine.proofs.AnswerLemmas.{Asks, counts_read, same_kept, same_logged}
 use Rattle.chv_engine.proofs.DoneLemmas.{Done, TellsNone, done_answers, ended_task}
 use Rattle.chv_engine.proofs.RoomLemmas.{delivers-numbered, delivers-to, has_room-all, has_room-none, held_numbered, room_entries, same_entries}
-
--- the kinds of a table are those of its definition
-kinds_are : (number : ℕ) (def : TableDef) (table : Table) → IsTableOf number def table → table.kinds ≡ kinds_of def
-kinds_are number def table of = ap (λ (form : TableForm). form.kinds) of.form_is
-
--- no table of a store has more than 64 columns
-pub all_few : (store : Store) → IsWithin store → All (λ (def : TableDef). length (kinds_of def) ≤ 64) store.schema.catalog.tables
-all_few store within =
-    each-def IsHeldAs (λ (def : TableDef). length (kinds_of def) ≤ 64) 1 store.schema.catalog.tables store.tables.items
-    (λ n def table held. subst (λ (kinds : List Kind). length kinds ≤ 64) (kinds_are n def table held.1) held.0.columns.most)
-    within.tables
 
 -- what is planned is what an insert asks for
 pub insert_asks : (catalog : Catalog) (insert : Insert) (plan : Plan) (entries : ℕ → ℕ) → planned catalog insert ≡ Ok plan → plan_wish plan catalog entries ≡ insert_wish insert catalog entries

@@ -1,8 +1,8 @@
 -- What is held of blocks along paths.
 use Rattle.std.proofs.Common.{◌≡◌, ◌∙◌, ◌≤◌, ◌+◌, ◌-◌, ◌≢◌, ◌||◌, ℕ, suc, Bool, true, false, not, List, [], ◌∷◌, ◌++◌, length, map, drop, Option, None, Some, Result, Ok, Err, get_or, slice_get, option_map, refl, sym, ap, ap₂, subst, arith, append_assoc}
-use Rattle.std.specs.List.{filter, list_any}
+use Rattle.std.specs.List.{All, filter, list_any}
 use Rattle.std.proofs.lemmas.List.{append-nil, length-map, map-append}
-use Rattle.std.proofs.lemmas.List.Elements.{filter-append}
+use Rattle.std.proofs.lemmas.List.Elements.{All-tail, filter-append}
 use Rattle.std.proofs.lemmas.List.Folds.{list_any-append}
 use Rattle.std.proofs.lemmas.Option.{get_or_from_slice_get, slice_get-map, slice_get_within}
 use Rattle.chv_ast.specs.declared.refusal.Refusal.{Refusal}
@@ -12,6 +12,7 @@ use Rattle.chv_catalog.specs.Schemas.{Catalog}
 use Rattle.chv_catalog.specs.Walks.{paths_by}
 use Rattle.chv_catalog.specs.declared.link.Link.{Link}
 use Rattle.chv_catalog.specs.declared.view_def.ViewDef.{ViewDef}
+use Rattle.chv_group.proofs.ClimbLemmas.{All-front}
 use Rattle.chv_group.specs.Groups.{is_empty}
 use Rattle.chv_query.specs.Arrivals.{contribution_id, end_at, names_along}
 use Rattle.chv_query.specs.Derived.{derived, divides_along, divides_by, divides_in, form_at, through, viewed_by}
@@ -36,6 +37,11 @@ divides_by-nil (Err refusal) = refl
 some_items : {A : Type 0} (xs : List A) → 1 ≤ length xs → not (is_empty xs) ≡ true
 some_items {A} [] some = absurd (omega arith)
 some_items {A} (x ∷ xs) some = refl
+
+-- what holds of two lists holds of the second
+All-behind : {A : Type 0} (P : A → Type 0) (xs ys : List A) → All P (xs ++ ys) → All P ys
+All-behind P [] ys all = all
+All-behind P (x ∷ xs) ys all = All-behind P xs ys (All-tail P x (xs ++ ys) all)
 
 module _ (catalog : Catalog) where
   abbrev links : List Link
@@ -254,6 +260,12 @@ module _ (catalog : Catalog) where
                   ∙ is.left;
               are = is.are;
             })
+
+        -- what holds of all paths holds of those that begin with the next view
+        pub IsDone-next : (P : List ℕ → Type 0) (held : List Held) → IsDone room table view held → def.source ≡ table → All P (paths_within room links table) → All P (paths_through (room - 1) links view)
+        IsDone-next P held is reads all =
+            let left : All P (left_from room table view) = All-behind P is.done (left_from room table view) (subst (All P) (sym is.left) all) in
+            All-front P (paths_through (room - 1) links view) (left_from room table (view + 1)) (subst (All P) (next_left reads) left)
 
         -- a path that begins with the next view refuses
         pub IsDone-refused : (held : List Held) → IsDone room table view held → def.source ≡ table → list_any (divides_along catalog rows) (paths_through (room - 1) links view) ≡ true

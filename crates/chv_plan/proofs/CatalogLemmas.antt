@@ -1,5 +1,5 @@
 -- The views of a catalog that a schema defines, and the same views bound.
-use Rattle.std.proofs.Common.{◌≡◌, ◌∙◌, ◌≤◌, ◌<◌, ◌-◌, ◌&&◌, ℕ, Bool, nat_lt, zero, suc, List, [], ◌∷◌, ◌++◌, length, get_or, take, Option, None, Some, Result, Ok, Err, slice_get, option_map, ◌^◌, refl, sym, ap, subst, arith}
+use Rattle.std.proofs.Common.{◌≡◌, ◌∙◌, ◌≤◌, ◌<◌, ◌-◌, ◌&&◌, ℕ, Bool, nat_lt, zero, suc, List, [], ◌∷◌, ◌++◌, length, Option, None, Some, Result, Ok, Err, slice_get, option_map, ◌^◌, refl, sym, ap, subst, arith}
 use Rattle.std.specs.List.{All, list_all}
 use Rattle.std.proofs.lemmas.Bool.{and_parts, ltb-true}
 use Rattle.std.proofs.lemmas.List.Elements.{All-append, All-cons, All-head, All-nil, All-tail, All-weaker}
@@ -23,21 +23,21 @@ use Rattle.chv_catalog.specs.declared.view_def.ViewDef.{ViewDef}
 use Rattle.chv_query.proofs.AcceptedLemmas.{defines_view}
 use Rattle.chv_query.proofs.AptLemmas.{IsAptTable, schema-apt}
 use Rattle.chv_query.proofs.EntryLemmas.{AreRowsOf, through-fits}
-use Rattle.chv_query.proofs.GroupFits.{SetsWithin}
 use Rattle.chv_query.proofs.GrowthLemmas.{All-at, IsViewIn, schema-views}
 use Rattle.chv_query.proofs.ViewLemmas.{passed_view}
-use Rattle.chv_query.specs.Accepted.{Accepted, AreAccepted, Defines, views_in, views_of}
+use Rattle.chv_query.specs.Accepted.{Accepted, AreAccepted, Defines, IsCatalog, views_in, views_of}
 use Rattle.chv_query.specs.Arrivals.{names_along}
 use Rattle.chv_query.specs.Bound.{AnswersAs, TakesRow}
 use Rattle.chv_query.specs.Derived.{columns_at, def_at, divides_in, form_at, form_in, through, viewed}
 use Rattle.chv_query.specs.Outputs.{filter_of}
 use Rattle.chv_query.specs.Queries.{Asked, asked, asked_of, divides, limit_of, sorts_of}
 use Rattle.chv_query.specs.Shapes.{shape_of}
+use Rattle.chv_query.proofs.GroupFits.{SetsWithin}
 use Rattle.chv_types.specs.Fits.{FitAll}
 use Rattle.chv_types.specs.declared.kind.Kind.{Kind}
 use Rattle.chv_types.specs.declared.value.Value.{Value}
 use Rattle.chv_plan.specs.Below.{IsBlockOf}
-use Rattle.chv_plan.specs.Bound.{AreBound, IsBound, IsCatalog}
+use Rattle.chv_plan.specs.Bound.{IsBound}
 use Rattle.chv_plan.specs.declared.views.BoundView.{BoundView}
 
 -- the views of a catalog
@@ -114,35 +114,6 @@ pub view_short : (catalog : Catalog) → IsCatalog catalog → (view : ℕ) (def
 view_short catalog is view def at =
     let all : All IsShort catalog.views = subst (λ (c : Catalog). All IsShort c.views) is.2 (all_short no_definitions is.0 is.1) in
     All-at IsShort catalog.views view def all at
-
-module _ (catalog : Catalog) where
-  -- one more is bound
-  pub AreBound-more : (views : List ViewDef) (i next : ℕ) (def : ViewDef) (bound : List BoundView) (one : BoundView) → AreBound catalog (take i views) bound → slice_get views i ≡ Some def → next ≡ suc i
-      → IsBound catalog def one → AreBound catalog (take next views) (bound ++ one ∷ [])
-  AreBound-more [] i next def bound one are at step is = cc
-  AreBound-more (view ∷ views) zero next def [] one are at step is =
-      let same : view ≡ def = cc in
-      rw step (subst (λ (d : ViewDef). IsBound catalog d one) (sym same) is, tt)
-  AreBound-more (view ∷ views) zero next def (other ∷ bound) one are at step is = absurd are
-  AreBound-more (view ∷ views) (suc i) next def [] one are at step is = absurd are
-  AreBound-more (view ∷ views) (suc i) next def (other ∷ bound) one are at step is =
-      rw step (are.0, AreBound-more views i (suc i) def bound one are.1 at refl is)
-
-  -- there are as many as there are views
-  pub AreBound-length : (views : List ViewDef) (bound : List BoundView) → AreBound catalog views bound → length bound ≡ length views
-  AreBound-length [] [] are = refl
-  AreBound-length [] (one ∷ bound) are = absurd are
-  AreBound-length (view ∷ views) [] are = absurd are
-  AreBound-length (view ∷ views) (one ∷ bound) are = ap suc (AreBound-length views bound are.1)
-
-  -- the one of a number is the view of that number
-  pub AreBound-at : (views : List ViewDef) (bound : List BoundView) (view : ℕ) (def : ViewDef) (other : BoundView) → AreBound catalog views bound → slice_get views view ≡ Some def → IsBound catalog def (get_or bound view other)
-  AreBound-at [] bound view def other are at = cc
-  AreBound-at (first ∷ views) [] view def other are at = absurd are
-  AreBound-at (first ∷ views) (one ∷ bound) zero def other are at =
-      let same : first ≡ def = cc in
-      subst (λ (d : ViewDef). IsBound catalog d one) same are.0
-  AreBound-at (first ∷ views) (one ∷ bound) (suc view) def other are at = AreBound-at views bound view def other are.1 at
 
 -- what a view makes of a block of its source is one of its target
 pub derived_block : (catalog : Catalog) → IsCatalog catalog → (view : ℕ) (def : ViewDef) (rows : List (List Value)) → slice_get catalog.views view ≡ Some def → IsBlockOf (form_at catalog def.source) rows

@@ -19,10 +19,10 @@ use Rattle.chv_plan.proofs.HeldLemmas.{delivers_all, held_some}
 use Rattle.chv_query.proofs.ArrivalLemmas.{ArrivesIn, planned-arrives}
 use Rattle.chv_plan.specs.Below.{HoldsAll}
 use Rattle.chv_plan.specs.Blocks.{Brings}
-use Rattle.chv_plan.specs.Bound.{IsCatalog}
 use Rattle.chv_plan.specs.Deliveries.{DeliversAll}
 use Rattle.chv_plan.specs.Places.{filled_places}
 use Rattle.chv_query.specs.Plans.{Delivery, deliveries_for, deliveries_of, divides_below, is_long, planned, planned_for, rows_for, sized_rows, sizes_for}
+use Rattle.chv_query.specs.Accepted.{IsCatalog}
 use Rattle.chv_plan.specs.declared.delivery.Delivery.{Delivery as Held}
 
 -- checks that refuse nothing leave what follows them

@@ -6,12 +6,13 @@ ghost use Rattle.chv_block.specs.Spellings.{AllAreOf};
 ghost use Rattle.chv_catalog.specs.Paths.{MAX_PATH, links_of, paths_within};
 ghost use Rattle.chv_catalog.specs.declared.view_def.ViewDef.{ViewDef as SomeView};
 ghost use Rattle.chv_query.specs.Derived.{divides_in, form_at, through};
+ghost use Rattle.chv_query.specs.Accepted.{IsCatalog};
 ghost use Rattle.chv_plan.specs.Below.{AreHeld, IsBlockOf, IsHeld, Refuses, paths_through};
-ghost use Rattle.chv_plan.specs.Bound.{AreBound, IsCatalog};
+ghost use Rattle.chv_plan.specs.Bound.{AreBound, AreThere, IsThere};
 
 use crate::Delivery;
 use crate::ids::id_along;
-use crate::views::BoundView;
+use crate::views::BoundSchema;
 use chv_ast::Refusal;
 use chv_catalog::{Schema, StatementFault};
 use chv_merge::normal;
@@ -25,39 +26,29 @@ use std::alloc::{AllocError, Global};
 /// which these rows were derived. Each block is derived once, whatever goes on from it.
 #[cycle(below)]
 pub fn deliveries_below(
-    alloc: Global,
-    schema: &Schema,
-    views: &[BoundView],
+    bound: &BoundSchema,
     id: BlockId,
     room: u32,
     table: u32,
     path: &[u32],
     rows: &Block,
 ) -> Result<Vec<Delivery>, StatementFault>
-    requires schema { IsCatalog schema.now.catalog }
-    requires bound { AreBound schema.now.catalog schema.now.catalog.views views.now }
-    requires there { All (λ view. view < length schema.now.catalog.views) path.now }
+    requires schema { IsCatalog bound.now.schema.now.catalog }
+    requires bound { AreBound bound.now.schema.now.catalog bound.now.views.items }
+    requires views { AreThere bound.now.views.items (paths_within room (links_of bound.now.schema.now.catalog.views) table) }
+    requires there { All (λ view. view < length bound.now.schema.now.catalog.views) path.now }
     requires short { length path.now + room ≤ MAX_PATH }
-    requires rows { IsBlockOf (form_at schema.now.catalog table) rows.now }
-    ensures held { IfOk result (λ held. AreHeld schema.now.catalog id path.now rows.now held.items (paths_within room (links_of schema.now.catalog.views) table)) }
-    ensures refused { IfErr result (λ fault. Refuses schema.now.catalog rows.now (paths_within room (links_of schema.now.catalog.views) table) fault) }
+    requires rows { IsBlockOf (form_at bound.now.schema.now.catalog table) rows.now }
+    ensures held { IfOk result (λ held. AreHeld bound.now.schema.now.catalog id path.now rows.now held.items (paths_within room (links_of bound.now.schema.now.catalog.views) table)) }
+    ensures refused { IfErr result (λ fault. Refuses bound.now.schema.now.catalog rows.now (paths_within room (links_of bound.now.schema.now.catalog.views) table) fault) }
 {
-    let mut deliveries = Vec::new(alloc);
+    let mut deliveries = Vec::new(bound.alloc);
     if room == 0 {
         return Ok(deliveries);
     }
-    for view in 0..schema.views() {
-        if schema.view_def(view).source == table {
-            let mut more = deliveries_through(
-                alloc,
-                schema,
-                views,
-                id,
-                room - 1,
-                view,
-                path,
-                rows,
-            )?;
+    for view in 0..bound.schema.views() {
+        if bound.schema.view_def(view).source == table {
+            let mut more = deliveries_through(bound, id, room - 1, view, path, rows)?;
             deliveries.append(&mut more)?;
         }
     }
@@ -67,54 +58,57 @@ pub fn deliveries_below(
 // What is derived from a block along each path that goes on by a view, with so many views at most behind it.
 #[cycle(below)]
 fn deliveries_through(
-    alloc: Global,
-    schema: &Schema,
-    views: &[BoundView],
+    bound: &BoundSchema,
     id: BlockId,
     room: u32,
     view: u32,
     path: &[u32],
     rows: &Block,
 ) -> Result<Vec<Delivery>, StatementFault>
-    requires schema { IsCatalog schema.now.catalog }
-    requires bound { AreBound schema.now.catalog schema.now.catalog.views views.now }
-    requires there { All (λ view. view < length schema.now.catalog.views) path.now }
-    requires last { view < length schema.now.catalog.views }
+    requires schema { IsCatalog bound.now.schema.now.catalog }
+    requires bound { AreBound bound.now.schema.now.catalog bound.now.views.items }
+    requires views { AreThere bound.now.views.items (paths_through room (links_of bound.now.schema.now.catalog.views) view) }
+    requires there { All (λ view. view < length bound.now.schema.now.catalog.views) path.now }
+    requires last { view < length bound.now.schema.now.catalog.views }
     requires short { length path.now + room < MAX_PATH }
-    requires rows { (def : SomeView) → slice_get schema.now.catalog.views view ≡ Some def → IsBlockOf (form_at schema.now.catalog def.source) rows.now }
-    ensures held { IfOk result (λ held. AreHeld schema.now.catalog id path.now rows.now held.items (paths_through room (links_of schema.now.catalog.views) view)) }
-    ensures refused { IfErr result (λ fault. Refuses schema.now.catalog rows.now (paths_through room (links_of schema.now.catalog.views) view) fault) }
+    requires rows { (def : SomeView) → slice_get bound.now.schema.now.catalog.views view ≡ Some def → IsBlockOf (form_at bound.now.schema.now.catalog def.source) rows.now }
+    ensures held { IfOk result (λ held. AreHeld bound.now.schema.now.catalog id path.now rows.now held.items (paths_through room (links_of bound.now.schema.now.catalog.views) view)) }
+    ensures refused { IfErr result (λ fault. Refuses bound.now.schema.now.catalog rows.now (paths_through room (links_of bound.now.schema.now.catalog.views) view) fault) }
 {
-    let made = made_by(alloc, schema, views, view, rows)?;
+    let alloc = bound.alloc;
+    let schema = bound.schema;
+    let made = made_by(bound, view, rows)?;
     if made.len() == 0 {
         return Ok(Vec::new(alloc));
     }
     let path = longer(alloc, path, view)?;
     let target = schema.view_def(view).target;
     // What is below sees the rows as they arrive, before they are put into normal form.
-    let below = deliveries_below(alloc, schema, views, id, room, target, &path, &made)?;
+    let below = deliveries_below(bound, id, room, target, &path, &made)?;
     let id = id_along(schema, id, &path);
-    let first = delivery_to(alloc, schema, target, &views[view as usize].kinds, id, made)?;
+    let first = delivery_to(
+        alloc,
+        schema,
+        target,
+        &bound.bound_view(view).kinds,
+        id,
+        made,
+    )?;
     Ok(put_first(alloc, first, below)?)
 }
 
 // What a view makes of rows of its source.
-fn made_by(
-    alloc: Global,
-    schema: &Schema,
-    views: &[BoundView],
-    view: u32,
-    rows: &Block,
-) -> Result<Block, StatementFault>
-    requires schema { IsCatalog schema.now.catalog }
-    requires bound { AreBound schema.now.catalog schema.now.catalog.views views.now }
-    requires last { view < length schema.now.catalog.views }
-    requires rows { (def : SomeView) → slice_get schema.now.catalog.views view ≡ Some def → IsBlockOf (form_at schema.now.catalog def.source) rows.now }
-    ensures made { IfOk result (λ made. made ≡ through schema.now.catalog (slice_get schema.now.catalog.views view) rows.now) }
-    ensures sound { IfOk result (λ made. divides_in schema.now.catalog (slice_get schema.now.catalog.views view) rows.now ≡ false) }
-    ensures refused { IfErr result (λ fault. (refusal : Refusal) → fault ≡ StatementFault.Refused refusal → (refusal ≡ Refusal.DivisionByZero) × (divides_in schema.now.catalog (slice_get schema.now.catalog.views view) rows.now ≡ true)) }
+fn made_by(bound: &BoundSchema, view: u32, rows: &Block) -> Result<Block, StatementFault>
+    requires schema { IsCatalog bound.now.schema.now.catalog }
+    requires bound { AreBound bound.now.schema.now.catalog bound.now.views.items }
+    requires there { IsThere bound.now.views.items view }
+    requires last { view < length bound.now.schema.now.catalog.views }
+    requires rows { (def : SomeView) → slice_get bound.now.schema.now.catalog.views view ≡ Some def → IsBlockOf (form_at bound.now.schema.now.catalog def.source) rows.now }
+    ensures made { IfOk result (λ made. made ≡ through bound.now.schema.now.catalog (slice_get bound.now.schema.now.catalog.views view) rows.now) }
+    ensures sound { IfOk result (λ made. divides_in bound.now.schema.now.catalog (slice_get bound.now.schema.now.catalog.views view) rows.now ≡ false) }
+    ensures refused { IfErr result (λ fault. (refusal : Refusal) → fault ≡ StatementFault.Refused refusal → (refusal ≡ Refusal.DivisionByZero) × (divides_in bound.now.schema.now.catalog (slice_get bound.now.schema.now.catalog.views view) rows.now ≡ true)) }
 {
-    match run_view(alloc, &views[view as usize].query, rows) {
+    match run_view(bound.alloc, &bound.bound_view(view).query, rows) {
         Ok(made) => Ok(made),
         Err(BlockFault::ZeroDivisor { row: _ }) => {
             Err(StatementFault::Refused(Refusal::DivisionByZero))

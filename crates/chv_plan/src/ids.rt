@@ -4,9 +4,9 @@ ghost use Rattle.std.specs.List.{All};
 ghost use Rattle.chv_block.specs.Spellings.{AllAreOf, block_spelling};
 ghost use Rattle.chv_query.specs.Arrivals.{names_along};
 ghost use Rattle.chv_query.specs.Plans.{is_long, source_of};
+ghost use Rattle.chv_query.specs.Accepted.{IsCatalog};
 ghost use Rattle.chv_sip.specs.BlockIds.{content_key, id_of, path_id, source_id};
 ghost use Rattle.chv_catalog.specs.Paths.{MAX_PATH};
-ghost use Rattle.chv_plan.specs.Bound.{IsCatalog};
 
 use chv_ast::Quoted;
 use chv_block::block_bytes;

@@ -1,17 +1,19 @@
 // INSERT.
-ghost use Rattle.std.specs.Prelude.{◌≡◌, ◌≤◌, ℕ, List, false, true, length, Some, Ok, Err, IfOk, IfErr, OnOk};
+ghost use Rattle.std.specs.Prelude.{◌≡◌, ◌≤◌, List, false, true, length, Some, Ok, Err, IfOk, IfErr, OnOk};
 ghost use Rattle.std.specs.List.{All, list_any};
 ghost use Rattle.chv_ast.specs.declared.refusal.Refusal.{Refusal};
 ghost use Rattle.chv_ast.specs.Formed.{FormedInsert};
 ghost use Rattle.chv_block.specs.Blocks.{and_block, blocks_of};
+ghost use Rattle.chv_catalog.specs.Paths.{links_of, paths_from};
 ghost use Rattle.chv_catalog.specs.Schemas.{kinds_of};
 ghost use Rattle.chv_part.specs.Books.{MAX_ROWS};
 ghost use Rattle.chv_types.specs.declared.value.Value.{Value as SomeValue};
 ghost use Rattle.chv_query.specs.Derived.{def_at, form_at};
 ghost use Rattle.chv_query.specs.Plans.{AreBlocks, Delivery as Planned, block_deliveries, deliveries_of, divides_below, planned, planned_for, rows_for, sized_rows, is_long, source_of};
+ghost use Rattle.chv_query.specs.Accepted.{IsCatalog};
 ghost use Rattle.chv_plan.specs.Below.{HoldsAll, IsBlockOf};
 ghost use Rattle.chv_plan.specs.Blocks.{Brings};
-ghost use Rattle.chv_plan.specs.Bound.{AreBound, IsCatalog};
+ghost use Rattle.chv_plan.specs.Bound.{AreBound, AreThere};
 ghost use Rattle.chv_plan.specs.Deliveries.{DeliversAll};
 ghost use Rattle.chv_plan.specs.Places.{ArePlaces};
 
@@ -20,7 +22,7 @@ use crate::columns::filled_places;
 use crate::ids::block_id;
 use crate::row::row_for;
 use crate::settings::{is_long, sizes_for};
-use crate::views::{BoundView, bind_views};
+use crate::views::{BoundSchema, bind_views};
 use crate::{Delivery, Plan};
 use chv_ast::{Insert, LiteralRow, Quoted, Refusal};
 use chv_block::{Sizes, Squasher, row_size};
@@ -41,7 +43,6 @@ const MAX_PATH: u32 = 8;
 pub fn plan_insert(alloc: Global, schema: &Schema, insert: &Insert) -> Result<Plan, StatementFault>
     requires formed { FormedInsert insert.now }
     requires schema { IsCatalog schema.now.catalog }
-    requires few { All (λ def. length (kinds_of def) ≤ 64) schema.now.catalog.tables }
     ensures planned { IfOk result (λ held. (plan : List Planned) × (planned schema.now.catalog insert.now ≡ Ok plan) × DeliversAll schema.now.catalog held.deliveries plan) }
     ensures count { IfOk result (λ held. 1 ≤ length held.deliveries) }
     ensures refused { IfErr result (λ fault. (refusal : Refusal) → fault ≡ StatementFault.Refused refusal → planned schema.now.catalog insert.now ≡ Err refusal) }
@@ -136,11 +137,16 @@ fn deliveries_of(
     ensures sound { IfOk result (λ held. list_any (divides_below schema.now.catalog table) blocks.items ≡ false) }
     ensures refused { IfErr result (λ fault. (refusal : Refusal) → fault ≡ StatementFault.Refused refusal → (refusal ≡ Refusal.DivisionByZero) × (list_any (divides_below schema.now.catalog table) blocks.items ≡ true)) }
 {
-    let views = bind_views(alloc, schema)?;
+    let views = bind_views(alloc, schema, table)?;
+    let bound = BoundSchema {
+        alloc,
+        schema,
+        views,
+    };
     let mut deliveries = Vec::with_capacity(alloc, blocks.len())?;
     let mut number = 0;
     for block in blocks {
-        let mut more = block_deliveries(alloc, schema, &views, table, kinds, token, number, block)?;
+        let mut more = block_deliveries(&bound, table, kinds, token, number, block)?;
         deliveries.append(&mut more)?;
         number += 1;
     }
@@ -149,28 +155,29 @@ fn deliveries_of(
 
 // A block of a number in its insert as deliveries: to the table of a number, and then along each path from there.
 fn block_deliveries(
-    alloc: Global,
-    schema: &Schema,
-    views: &[BoundView],
+    bound: &BoundSchema,
     table: u32,
     kinds: &Kinds,
     token: &Option<Quoted>,
     number: u32,
     block: Block,
 ) -> Result<Vec<Delivery>, StatementFault>
-    requires schema { IsCatalog schema.now.catalog }
-    requires bound { AreBound schema.now.catalog schema.now.catalog.views views.now }
-    requires table { (1 ≤ table) × (table ≤ length schema.now.catalog.tables) }
-    requires kinds { kinds.now ≡ (form_at schema.now.catalog table).kinds }
-    requires rows { IsBlockOf (form_at schema.now.catalog table) block }
+    requires schema { IsCatalog bound.now.schema.now.catalog }
+    requires bound { AreBound bound.now.schema.now.catalog bound.now.views.items }
+    requires views { AreThere bound.now.views.items (paths_from (links_of bound.now.schema.now.catalog.views) table) }
+    requires table { (1 ≤ table) × (table ≤ length bound.now.schema.now.catalog.tables) }
+    requires kinds { kinds.now ≡ (form_at bound.now.schema.now.catalog table).kinds }
+    requires rows { IsBlockOf (form_at bound.now.schema.now.catalog table) block }
     requires token { is_long token.now ≡ false }
-    ensures held { IfOk result (λ held. HoldsAll schema.now.catalog held.items (block_deliveries schema.now.catalog table (source_of kinds.now token.now number block) block)) }
-    ensures sound { IfOk result (λ held. divides_below schema.now.catalog table block ≡ false) }
-    ensures refused { IfErr result (λ fault. (refusal : Refusal) → fault ≡ StatementFault.Refused refusal → (refusal ≡ Refusal.DivisionByZero) × (divides_below schema.now.catalog table block ≡ true)) }
+    ensures held { IfOk result (λ held. HoldsAll bound.now.schema.now.catalog held.items (block_deliveries bound.now.schema.now.catalog table (source_of kinds.now token.now number block) block)) }
+    ensures sound { IfOk result (λ held. divides_below bound.now.schema.now.catalog table block ≡ false) }
+    ensures refused { IfErr result (λ fault. (refusal : Refusal) → fault ≡ StatementFault.Refused refusal → (refusal ≡ Refusal.DivisionByZero) × (divides_below bound.now.schema.now.catalog table block ≡ true)) }
 {
+    let alloc = bound.alloc;
+    let schema = bound.schema;
     let id = block_id(alloc, kinds, token, number, &block)?;
     // What is below sees the rows as they arrive, before they are put into normal form.
-    let below = deliveries_below(alloc, schema, views, id, MAX_PATH, table, &[], &block)?;
+    let below = deliveries_below(bound, id, MAX_PATH, table, &[], &block)?;
     let first = delivery_to(alloc, schema, table, kinds, id, block)?;
     Ok(put_first(alloc, first, below)?)
 }

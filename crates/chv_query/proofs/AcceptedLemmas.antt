@@ -1,15 +1,12 @@
 -- What holds of statements that are accepted, of the tables that they define, and of a schema with a statement more.
-use Rattle.std.proofs.Common.{◌≡◌, ◌<◌, ◌≤◌, ◌+◌, true, not, List, [], ◌∷◌, ◌++◌, length, None, Ok, Result, refl, sym, ap, ap₂, subst, ◌∙◌, arith, append_assoc}
-use Rattle.std.specs.List.{All, list_all}
-use Rattle.std.proofs.lemmas.Bool.{and_parts, false≢true}
+use Rattle.std.proofs.Common.{◌≡◌, ◌<◌, ◌≤◌, ◌+◌, true, List, [], ◌∷◌, ◌++◌, length, None, Ok, Result, refl, sym, ap, ap₂, subst, ◌∙◌, arith, append_assoc}
+use Rattle.std.specs.List.{All}
 use Rattle.std.proofs.lemmas.Grind.{flat_map-append}
 use Rattle.std.proofs.lemmas.List.{append-nil, length-append, length-map}
 use Rattle.std.proofs.lemmas.List.Elements.{All-append, All-cons, All-nil}
 use Rattle.chv_ast.specs.Formed.{WellFormed}
 use Rattle.chv_ast.specs.declared.refusal.Refusal.{Refusal}
-use Rattle.chv_ast.specs.declared.statement.ColumnDef.{ColumnDef}
 use Rattle.chv_ast.specs.declared.statement.CreateTable.{CreateTable}
-use Rattle.chv_ast.specs.declared.statement.KindWord.{KindWord}
 use Rattle.chv_ast.specs.declared.statement.KindWord.TheVariants as kind
 use Rattle.chv_ast.specs.declared.statement.Statement.{Statement}
 use Rattle.chv_ast.specs.declared.statement.Statement.TheVariants as statement
@@ -22,7 +19,7 @@ use Rattle.chv_catalog.specs.declared.view_def.ViewDef.{ViewDef}
 use Rattle.chv_print.specs.StatementTexts.{statement_text, table_text, view_text}
 use Rattle.chv_types.specs.Names.{place_of}
 use Rattle.chv_types.specs.declared.table.Column.{Column}
-use Rattle.chv_query.specs.Accepted.{Accepted, AreAccepted, Defines, IsAccepted, IsSchema, catalog_of, is_built_create, is_built_table, tables_in, tables_of, views_in, views_of}
+use Rattle.chv_query.specs.Accepted.{Accepted, AreAccepted, Defines, IsAccepted, IsCatalog, IsSchema, catalog_of, is_built_create, tables_in, tables_of, views_in, views_of}
 use Rattle.chv_query.specs.Definitions.{defined}
 use Rattle.chv_query.specs.Views.{defined_view}
 use Rattle.chv_query.proofs.DefinitionLemmas.{passed}
@@ -151,6 +148,10 @@ all_made catalog (accepted ∷ schema) are =
     All-append IsMade (tables_in accepted.definition) (tables_of schema)
     (made_columns catalog accepted.statement accepted.definition are.1.defines are.1.formed)
     (all_made (with_definition accepted.definition catalog) schema are.2)
+
+-- and so has each table of a catalog
+pub catalog_made : (catalog : Catalog) → IsCatalog catalog → All IsMade catalog.tables
+catalog_made catalog is = subst (λ (c : Catalog). All IsMade c.tables) is.2 (all_made no_definitions is.0 is.1)
 
 -- a catalog with the definitions of a schema, behind the others
 abbrev pub with_schema : Catalog → List Accepted → Catalog

@@ -1,32 +1,28 @@
 -- What a definition says.
 use Rattle.std.proofs.Common.{◌≡◌, ◌<◌, ◌≤◌, ◌&&◌, ℕ, Bool, true, false, not, nat_lt, List, [], ◌∷◌, length, map, Option, Some, None, is_some, Ok, refl, sym, subst, arith}
-use Rattle.std.specs.List.{All, list_any}
+use Rattle.std.specs.List.{list_any}
 use Rattle.std.proofs.lemmas.Bool.{ltb-true, ltb-false}
-use Rattle.std.proofs.lemmas.List.Elements.{All-cons, All-head, All-nil, All-tail}
 use Rattle.chv_ast.specs.Formed.{EachOfSome, FormedColumn, FormedTable}
 use Rattle.chv_ast.specs.declared.refusal.Refusal.TheVariants.{ColumnNotMergeable, LimitPassed, NameTaken, TypeMismatch, UnknownColumn}
 use Rattle.chv_ast.specs.declared.statement.ColumnDef.{ColumnDef}
 use Rattle.chv_ast.specs.declared.statement.CreateTable.{CreateTable}
-use Rattle.chv_ast.specs.declared.statement.KindWord.{KindWord}
-use Rattle.chv_ast.specs.declared.statement.KindWord.TheVariants as kind_word
 use Rattle.chv_ast.specs.declared.statement.Statement.TheVariants as statement
 use Rattle.chv_catalog.proofs.StepLemmas.{and_then-Ok, refuse_if-Ok}
 use Rattle.chv_catalog.specs.Checks.{has_repeat, is_unknown}
-use Rattle.chv_catalog.specs.Schemas.{Catalog, definitions_in, kinds_of, names_of}
+use Rattle.chv_catalog.specs.Schemas.{Catalog, definitions_in, names_of}
 use Rattle.chv_catalog.specs.declared.table_def.TableDef.{TableDef}
 use Rattle.chv_print.specs.StatementTexts.{statement_text}
 use Rattle.chv_types.specs.Names.{place_of}
-use Rattle.chv_types.specs.Steps.{or_refuse}
-use Rattle.chv_types.specs.declared.kind.Kind.{Kind}
-use Rattle.chv_types.specs.declared.kind.Kind.TheVariants as kinds
 use Rattle.chv_types.specs.declared.table.Column.{Column}
-use Rattle.chv_query.specs.Definitions.{column_names, columns_of, defined, has_loose, has_state, is_aggregating, kind_of, scalar_of, table_with, window_of}
+use Rattle.chv_query.specs.Definitions.{column_names, columns_of, defined, has_loose, has_state, is_aggregating, kind_of, table_with, window_of}
 
-none_there : {A : Type 0} (o : Option A) → is_some o ≡ false → o ≡ None
+-- nothing is there
+pub none_there : {A : Type 0} (o : Option A) → is_some o ≡ false → o ≡ None
 none_there None h = refl
 none_there (Some a) h = cc
 
-negated : (b : Bool) → not b ≡ false → b ≡ true
+-- a test that is negated
+pub negated : (b : Bool) → not b ≡ false → b ≡ true
 negated true h = refl
 negated false h = cc
 

@@ -3,12 +3,12 @@ use Rattle.std.proofs.Common.{◌≡◌, ◌∙◌, ◌+◌, ◌<◌, ◌≤◌,
 use Rattle.std.proofs.lemmas.List.Elements.{All-contains, All-cons, All-filter, All-head, All-map, All-nil, All-tail, All-weaker, Contains-get_or}
 use Rattle.std.specs.List.{All, filter}
 use Rattle.std.specs.Option.{IfSome, option_and_then, unwrap_or}
-use Rattle.chv_agg.proofs.JoinFits.{set_size}
 use Rattle.chv_agg.proofs.StateFrontLemmas.{state_in-spelled}
 use Rattle.chv_agg.specs.StateBytes.{state_bytes}
 use Rattle.chv_agg.specs.States.{FitsState, value_of}
 use Rattle.chv_agg.specs.declared.any_agg.AnyAgg.{AnyAgg}
 use Rattle.chv_agg.specs.declared.any_agg.AnyAgg.TheVariants.{Count, SumU, SumI, Least, Greatest, Uniq}
+use Rattle.chv_agg.proofs.JoinFits.{set_size}
 use Rattle.chv_block.proofs.DefaultLemmas.{default_kind}
 use Rattle.chv_block.specs.Spellings.{AllAreOf, AreOf, IsOf}
 use Rattle.chv_catalog.specs.Checks.{is_state}
@@ -19,10 +19,11 @@ use Rattle.chv_group.specs.Groups.{TakesArgument, argument_at, call_state, gives
 use Rattle.chv_group.specs.declared.call.AggCall.{AggCall}
 use Rattle.chv_group.specs.declared.call.Keyed.{Keyed}
 use Rattle.chv_query.proofs.SetSums.{call_state-fits, call_state-size, input_size, length-mapped, members-length, set_in, total, total-filter, total-groups, total-map, total-more, total-none, total-same}
-use Rattle.chv_query.proofs.ShapeTerms.{AllPlaced, some_same, term_kinds}
+use Rattle.chv_query.proofs.ShapeTerms.{AllPlaced, term_kinds}
 use Rattle.chv_query.specs.Calls.{call_kind}
-use Rattle.chv_query.specs.Results.{arranged, keyed, outcome, output_row, passes, shaped}
+use Rattle.chv_query.specs.Results.{arranged, outcome, output_row, passes}
 use Rattle.chv_query.specs.Results as made_of
+use Rattle.chv_query.proofs.TakesLemmas.{some_same}
 use Rattle.chv_types.proofs.MemberLemmas.{members-HaveSame, members-Rises}
 use Rattle.chv_types.specs.Aggregates.{result_of as kind_over}
 use Rattle.chv_types.specs.Fits.{IsOfScalar}

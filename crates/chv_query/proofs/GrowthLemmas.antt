@@ -1,15 +1,14 @@
 -- What stands of a catalog where a definition is put behind the others.
-use Rattle.std.proofs.Common.{◌≡◌, ◌∙◌, ◌<◌, ◌≤◌, ◌+◌, ◌-◌, ◌||◌, ℕ, suc, zero, Bool, true, false, not, List, [], ◌∷◌, ◌++◌, length, map, Option, None, Some, Result, Ok, Err, slice_get, refl, sym, ap, ap₂, subst, arith}
-use Rattle.std.specs.List.{All, filter_map, list_any}
-use Rattle.std.specs.Option.{option_map, unwrap_or}
-use Rattle.std.proofs.lemmas.Bool.{or_parts}
+use Rattle.std.proofs.Common.{◌≡◌, ◌∙◌, ◌≤◌, ◌+◌, ◌-◌, ◌||◌, ℕ, suc, zero, Bool, false, not, List, [], ◌∷◌, ◌++◌, length, map, Option, None, Some, Result, Ok, slice_get, refl, sym, ap, ap₂, subst, arith}
+use Rattle.std.specs.List.{All, list_any}
+use Rattle.std.specs.Option.{option_map}
 use Rattle.std.proofs.lemmas.List.{append-nil, map-append}
 use Rattle.std.proofs.lemmas.List.Elements.{All-append, All-cons, All-head, All-nil, All-tail, All-weaker}
 use Rattle.std.proofs.lemmas.Option.{slice_get-map, slice_get_within}
-use Rattle.chv_ast.specs.declared.refusal.Refusal.{Refusal}
 use Rattle.chv_ast.specs.declared.refusal.Refusal.TheVariants.{UnknownTable}
 use Rattle.chv_ast.specs.declared.statement.Select.{Select}
 use Rattle.chv_ast.specs.declared.statement.Statement.{Statement}
+use Rattle.chv_ast.specs.declared.refusal.Refusal.{Refusal}
 use Rattle.chv_catalog.proofs.PathLemmas.{IsPath-append, target_of-append}
 use Rattle.chv_catalog.proofs.SchemaLemmas.{place_of-append-Some}
 use Rattle.chv_catalog.proofs.StepLemmas.{and_then-Ok}
@@ -21,22 +20,21 @@ use Rattle.chv_catalog.specs.declared.definition.Definition.TheVariants.{Table, 
 use Rattle.chv_catalog.specs.declared.link.Link.{Link}
 use Rattle.chv_catalog.specs.declared.table_def.TableDef.{TableDef}
 use Rattle.chv_catalog.specs.declared.view_def.ViewDef.{ViewDef}
-use Rattle.chv_part.specs.Books.{TableForm, normal_rows}
+use Rattle.chv_part.specs.Books.{normal_rows}
 use Rattle.chv_sip.specs.BlockIds.{SourceKey, path_id, source_id}
 use Rattle.chv_sip.specs.declared.block_id.BlockId.{BlockId}
 use Rattle.chv_types.specs.Names.{place_of}
 use Rattle.chv_types.specs.Steps.{and_then, or_refuse}
-use Rattle.chv_types.specs.declared.table.Column.{Column}
 use Rattle.chv_types.specs.declared.value.Value.{Value}
 use Rattle.chv_query.proofs.AcceptedLemmas.{catalog_of-push, defines_table, defines_view, with_schema, with_schema-cons, with_schema-nil}
 use Rattle.chv_query.proofs.DefinitionLemmas.{IsOnce, once_named}
 use Rattle.chv_query.proofs.ViewLemmas.{passed_view}
 use Rattle.chv_query.specs.Accepted.{Accepted, AreAccepted, Defines, IsSchema, catalog_of}
 use Rattle.chv_query.specs.Arrivals.{Arrival, Contribution, IsArrival, arrival_in, contribution_id, end_at, names_along}
-use Rattle.chv_query.specs.Derived.{columns_at, def_at, derived, divides_along, divides_by, divides_in, form_at, form_in, through, viewed_by}
+use Rattle.chv_query.specs.Derived.{columns_at, def_at, derived, divides_along, divides_in, form_at, form_in, through}
 use Rattle.chv_query.specs.Queries.{Asked, asked, asked_of}
 use Rattle.chv_query.specs.Tables.{table_of}
-use Rattle.chv_query.specs.Views.{fills, names_in, view_with}
+use Rattle.chv_query.specs.Views.{fills, names_in}
 
 ok_same : {A : Type 0} (x y : A) → ◌≡◌ {A = Result A Refusal} (Ok x) (Ok y) → x ≡ y
 ok_same {A} x y same = cc

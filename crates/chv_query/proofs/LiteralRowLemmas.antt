@@ -1,13 +1,12 @@
 -- Rows that literals write are of their columns' kinds.
-use Rattle.std.proofs.Common.{◌≡◌, ◌+◌, ◌<◌, ◌≤◌, ℕ, suc, Bool, true, false, not, List, [], ◌∷◌, length, map, get_or, Option, None, Some, Result, Ok, Err, if◌then◌else◌, nat_eq, nat_lt, refl, ap, subst, ◌∙◌, arith, rules, eqb-true}
+use Rattle.std.proofs.Common.{◌≡◌, ◌+◌, ◌<◌, ℕ, suc, Bool, true, false, not, List, [], ◌∷◌, length, map, get_or, Option, None, Some, Result, Ok, Err, if◌then◌else◌, nat_eq, nat_lt, refl, ap, subst, ◌∙◌, arith, eqb-true}
 use Rattle.std.specs.List.{All, cons_option}
-use Rattle.std.proofs.lemmas.Int.{ints}
 use Rattle.std.proofs.lemmas.List.Elements.{All-cons, All-head, All-nil, All-tail}
 use Rattle.std.proofs.lemmas.Option.{slice_get-get_or}
 use Rattle.chv_ast.specs.declared.expr.Literal.{Literal}
 use Rattle.chv_ast.specs.declared.expr.Literal.TheVariants as literal
-use Rattle.chv_ast.specs.declared.refusal.Refusal.{Refusal}
 use Rattle.chv_ast.specs.declared.refusal.Refusal.TheVariants.{LimitPassed, WrongWidth}
+use Rattle.chv_ast.specs.declared.refusal.Refusal.{Refusal}
 use Rattle.chv_block.proofs.DefaultLemmas.{default_kind}
 use Rattle.chv_block.specs.Spellings.{IsOf, AreOf, AllAreOf, IsSmall}
 use Rattle.chv_catalog.proofs.SchemaLemmas.{place_of-within}

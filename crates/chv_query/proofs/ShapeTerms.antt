@@ -21,7 +21,7 @@ use Rattle.chv_query.proofs.GrowthLemmas.{slice_get-more}
 use Rattle.chv_query.proofs.KeyLemmas.{length-terms}
 use Rattle.chv_query.proofs.SetSums.{length-mapped}
 use Rattle.chv_query.proofs.ShapeLemmas.{kinds-columns_of}
-use Rattle.chv_query.proofs.TakesLemmas.{ok_same}
+use Rattle.chv_query.proofs.TakesLemmas.{ok_same, some_same}
 use Rattle.chv_query.specs.Calls.{Called, Wanted, call_kind, call_of, called_alone, called_with, over_of, same_function, values_of, wanted}
 use Rattle.chv_query.specs.Keys.{Key, key_of, key_term, key_tree, keys_of, place_of_key}
 use Rattle.chv_query.specs.Outputs.{Output, columns_from, item_outputs, output_name, outputs_of}
@@ -132,9 +132,6 @@ on_is name form term (Some found) called e is =
 
 abbrev zero_term : Term
 zero_term = constant scalar.UInt64 (Whole (pos 0))
-
-pub some_same : {A : Type 0} {a b : A} → Some a ≡ Some b → a ≡ b
-some_same is = cc is
 
 alone_is : (name : AggName) (form : AggForm) (called : Called) → called_alone name form ≡ Some called → IsOn called.call called.arg × (called.arg ≡ zero_term)
 alone_is agg.Count form.Plain called is = subst (λ (c : Called). IsOn c.call c.arg × (c.arg ≡ zero_term)) (some_same is) (((λ h. absurd (cc h)), (λ h. refl)), refl)

@@ -50,7 +50,7 @@ AreFed (call ∷ calls) (term ∷ terms) = IsFed call term × AreFed calls terms
 pub ok_same : {A : Type 0} {a b : A} → ◌≡◌ {A = Result A Refusal} (Ok a) (Ok b) → a ≡ b
 ok_same is = cc is
 
-some_same : {A : Type 0} {a b : A} → Some a ≡ Some b → a ≡ b
+pub some_same : {A : Type 0} {a b : A} → Some a ≡ Some b → a ≡ b
 some_same is = cc is
 
 AreFed-push : (calls : List AggCall) (terms : List Term) (call : AggCall) (term : Term) → AreFed calls terms → IsFed call term

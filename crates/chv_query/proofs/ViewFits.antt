@@ -32,6 +32,7 @@ use Rattle.chv_query.proofs.SetSums.{length-mapped, set_in, total, total-map, to
 use Rattle.chv_query.specs.Derived.{put_to, value_to, viewed}
 use Rattle.chv_query.specs.Queries.{Asked, asked_of, result_of}
 use Rattle.chv_query.specs.Views.{fills, fills_place, is_wider, kind_eq, lies_within, names_in, widens_to}
+use Rattle.chv_query.proofs.DefinitionLemmas.{none_there}
 use Rattle.chv_types.specs.Fits.{IsOfScalar}
 use Rattle.chv_types.specs.Kinds.{LiesIn, range_of}
 use Rattle.chv_types.specs.Names.{place_of}
@@ -187,10 +188,6 @@ place_of-name columns name place is =
     let at : slice_get names place ≡ Some (get_or names place name) = slice_get-get_or names place name found.0 in
     let column = slice_get-mapped (λ (column : Column). column.name) columns place (get_or names place name) at in
     (column.0, column.1, column.2 ∙ (bytes_eq-Decides (get_or names place name) name).0 found.1)
-
-none_there : {A : Type 0} (o : Option A) → is_some o ≡ false → o ≡ None
-none_there None h = refl
-none_there (Some a) h = cc
 
 -- where no name stands twice, a column stands at the place of its name
 place_of-once : (columns : List Column) (place : ℕ) (column : Column) → has_repeat (names_in columns) ≡ false → slice_get columns place ≡ Some column

@@ -1,11 +1,11 @@
 -- What a definition of a view says.
-use Rattle.std.proofs.Common.{◌≡◌, ◌<◌, ◌≤◌, ℕ, Bool, true, false, not, nat_lt, List, ◌∷◌, [], ◌++◌, length, Option, Some, None, is_some, Result, Ok, refl, subst, arith}
+use Rattle.std.proofs.Common.{◌≡◌, ◌<◌, ◌≤◌, ℕ, false, not, nat_lt, ◌∷◌, [], ◌++◌, length, None, is_some, Result, Ok, subst}
 use Rattle.std.specs.List.{list_any}
 use Rattle.std.proofs.lemmas.Bool.{ltb-true, ltb-false}
-use Rattle.chv_ast.specs.declared.refusal.Refusal.{Refusal}
 use Rattle.chv_ast.specs.declared.refusal.Refusal.TheVariants.{LimitPassed, NameTaken, TooManyPaths, TypeMismatch, UnknownColumn, ViewCycle}
 use Rattle.chv_ast.specs.declared.statement.CreateView.{CreateView}
 use Rattle.chv_ast.specs.declared.statement.Statement.TheVariants as statement
+use Rattle.chv_ast.specs.declared.refusal.Refusal.{Refusal}
 use Rattle.chv_catalog.proofs.StepLemmas.{and_then-Ok, refuse_if-Ok}
 use Rattle.chv_catalog.specs.Checks.{has_repeat, is_unknown}
 use Rattle.chv_catalog.specs.Paths.{links_of, passes_limits, reaches}
@@ -17,14 +17,7 @@ use Rattle.chv_types.specs.Names.{place_of}
 use Rattle.chv_query.specs.Queries.{Asked, asked_of}
 use Rattle.chv_query.specs.Tables.{table_of}
 use Rattle.chv_query.specs.Views.{defined_view, fills, names_in, view_with}
-
-none_there : {A : Type 0} (o : Option A) → is_some o ≡ false → o ≡ None
-none_there None h = refl
-none_there (Some a) h = cc
-
-negated : (b : Bool) → not b ≡ false → b ≡ true
-negated true h = refl
-negated false h = cc
+use Rattle.chv_query.proofs.DefinitionLemmas.{negated, none_there}
 
 ok_same : {A : Type 0} (x y : A) → ◌≡◌ {A = Result A Refusal} (Ok x) (Ok y) → x ≡ y
 ok_same {A} x y same = cc

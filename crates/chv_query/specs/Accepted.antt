@@ -1,10 +1,8 @@
 -- What a catalog has: accepted CREATE statements, and what they define.
-use Rattle.std.specs.Prelude.{ℕ, ◌≡◌, Bool, true, false, not, ◌&&◌, List, [], ◌∷◌, ◌++◌, map, Ok}
-use Rattle.std.specs.List.{flat_map, list_all}
+use Rattle.std.specs.Prelude.{ℕ, ◌≡◌, Bool, true, false, not, List, [], ◌∷◌, map, Ok}
+use Rattle.std.specs.List.{flat_map}
 use Rattle.chv_ast.specs.Formed.{WellFormed}
 use Rattle.chv_ast.specs.declared.statement.CreateTable.{CreateTable}
-use Rattle.chv_ast.specs.declared.statement.KindWord.{KindWord}
-use Rattle.chv_ast.specs.declared.statement.KindWord.TheVariants as kind
 use Rattle.chv_ast.specs.declared.statement.Statement.{Statement}
 use Rattle.chv_ast.specs.declared.statement.Statement.TheVariants as statement
 use Rattle.chv_catalog.specs.Schemas.{Catalog, no_definitions, with_definition}
@@ -73,6 +71,10 @@ AreAccepted catalog (accepted ∷ schema) =
 -- a schema: each of its statements is built, and accepted over those before it
 abbrev pub IsSchema : List Accepted → Type 0
 IsSchema schema = AreAccepted no_definitions schema
+
+-- a catalog is what a schema defines
+abbrev pub IsCatalog : Catalog → Type 0
+IsCatalog catalog = (schema : List Accepted) × IsSchema schema × (catalog_of schema ≡ catalog)
 
 -- a catalog's payload is the canonical text of an accepted statement
 abbrev pub catalog_payload : Accepted → List ℕ

@@ -1,7 +1,6 @@
 -- What a CREATE MATERIALIZED VIEW statement defines: docs/SQL.md, "CREATE MATERIALIZED VIEW".
 use Rattle.std.specs.Prelude.{ℕ, ℤ, Bool, false, not, ◌&&◌, ◌||◌, nat_lt, int_le, List, [], ◌∷◌, ◌++◌, length, map, Option, None, Some, is_some, Result, Ok, slice_get}
 use Rattle.std.specs.List.{list_any}
-use Rattle.std.specs.Option.{option_and_then}
 use Rattle.std.specs.Str.{bytes_eq}
 use Rattle.chv_ast.specs.declared.refusal.Refusal.{Refusal}
 use Rattle.chv_ast.specs.declared.refusal.Refusal.TheVariants.{UnknownColumn, NameTaken, TypeMismatch, ViewCycle, TooManyPaths, LimitPassed}

@@ -4,7 +4,6 @@ ghost use Rattle.chv_ast.specs.declared.refusal.Refusal.{Refusal as SomeRefusal}
 ghost use Rattle.chv_query.specs.Bound.{AnswersAs, AreCells, AreKeys, IsCall, IsKeyShown};
 ghost use Rattle.chv_query.specs.Calls.{Called, wanted};
 ghost use Rattle.chv_query.specs.Keys.{Key};
-ghost use Rattle.chv_query.specs.Outputs.{output_name};
 ghost use Rattle.chv_query.specs.Shapes.{Cells, key_shown, no_cells, put_item, put_items, put_key, put_wanted, with_call};
 ghost use Rattle.chv_types.specs.Names.{place_of};
 ghost use Rattle.chv_types.specs.declared.table.Column.{Column as SomeColumn};

@@ -1,8 +1,7 @@
 // Queries of views.
-ghost use Rattle.std.specs.Prelude.{◌≡◌, ℕ, List, length, map, false, true, slice_get, IfOk, IfErr, IsTrue};
+ghost use Rattle.std.specs.Prelude.{◌≡◌, ℕ, List, map, false, true, slice_get, IfOk, IfErr, IsTrue};
 ghost use Rattle.std.specs.List.{All};
 ghost use Rattle.std.specs.Option.{option_and_then, option_copied};
-ghost use Rattle.chv_catalog.specs.Schemas.{Catalog};
 ghost use Rattle.chv_query.specs.Bound.{AnswersAs, TakesRow};
 ghost use Rattle.chv_query.specs.Derived.{viewed};
 ghost use Rattle.chv_query.specs.Queries.{Asked, asked, divides};

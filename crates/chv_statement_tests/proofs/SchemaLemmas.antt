@@ -1,13 +1,9 @@
 -- Catalogs that schemas define.
-use Rattle.std.proofs.Common.{◌≡◌, ◌∙◌, ◌<◌, ◌≤◌, ◌++◌, ◌∷◌, [], None, true, length, refl, sym, ap, subst}
-use Rattle.std.specs.List.{All}
-use Rattle.std.proofs.lemmas.List.Elements.{All-weaker}
-use Rattle.chv_catalog.specs.Schemas.{Catalog, definition_name, definitions_in, kinds_of, names_of, no_definitions, place_of, with_definition}
+use Rattle.std.proofs.Common.{◌≡◌, ◌∙◌, ◌<◌, ◌++◌, ◌∷◌, [], None, true, refl, sym, ap, subst}
+use Rattle.chv_catalog.specs.Schemas.{Catalog, definition_name, definitions_in, names_of, no_definitions, place_of, with_definition}
 use Rattle.chv_catalog.specs.declared.definition.Definition.{Definition}
-use Rattle.chv_catalog.specs.declared.table_def.TableDef.{TableDef}
-use Rattle.chv_query.proofs.AcceptedLemmas.{IsMade, IsSchema-push, all_made, catalog_of-push, made_few, made_free}
-use Rattle.chv_query.specs.Accepted.{Accepted, IsAccepted, catalog_of, is_built_create}
-use Rattle.chv_plan.specs.Bound.{IsCatalog}
+use Rattle.chv_query.proofs.AcceptedLemmas.{IsSchema-push, catalog_of-push, made_few, made_free}
+use Rattle.chv_query.specs.Accepted.{Accepted, IsAccepted, IsCatalog, catalog_of, is_built_create}
 
 -- a schema of no statements defines nothing
 pub nothing_defined : IsCatalog no_definitions
@@ -20,12 +16,6 @@ one_more catalog is accepted built ok = (
   IsSchema-push is.0 accepted is.1 built (subst (λ (c : Catalog). IsAccepted c accepted) (sym is.2) ok),
   catalog_of-push is.0 accepted ∙ ap (with_definition accepted.definition) is.2,
 )
-
--- its tables have 64 columns at most
-pub few_columns : (catalog : Catalog) → IsCatalog catalog → All (λ (def : TableDef). length (kinds_of def) ≤ 64) catalog.tables
-few_columns catalog is =
-    subst (λ (c : Catalog). All (λ (def : TableDef). length (kinds_of def) ≤ 64) c.tables) is.2
-    (All-weaker IsMade (λ (def : TableDef). length (kinds_of def) ≤ 64) (λ def made. made.most) (catalog_of is.0).tables (all_made no_definitions is.0 is.1))
 
 -- what is accepted has a name that is free, and there is room for it
 module _ (catalog after : Catalog) (same : after ≡ catalog) (definition : Definition) (found : (accepted : Accepted) × (accepted.definition ≡ definition) × (is_built_create accepted.statement ≡ true) × IsAccepted catalog accepted) where

@@ -42,11 +42,11 @@ fn table_of(
     schema: &Schema,
     made: &CreateTable,
 ) -> Result<Definition, StatementFault> {
-    Ok(Definition::Table(define(alloc, schema, made)?))
+    Ok(Definition::Table(define(alloc, schema, made)?.def))
 }
 
 fn view_of(alloc: Global, schema: &Schema, made: CreateView) -> Result<Definition, StatementFault> {
-    Ok(Definition::View(define_view(alloc, schema, made)?))
+    Ok(Definition::View(define_view(alloc, schema, made)?.def))
 }
 
 /// The name of what is defined.

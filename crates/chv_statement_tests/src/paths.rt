@@ -1,5 +1,5 @@
 // INSERT statements that bring blocks along paths.
-ghost use Rattle.chv_plan.specs.Bound.{IsCatalog};
+ghost use Rattle.chv_query.specs.Accepted.{IsCatalog};
 
 use crate::making::statement_of;
 use crate::schemas::schema_of;
@@ -10,7 +10,6 @@ use chv_sip::BlockId;
 use std::alloc::Global;
 
 // What a text brings to the tables of a schema; None where it is no INSERT.
-#[tactic(auto, using(crate::proofs::SchemaLemmas::few_columns))]
 fn plan_in(alloc: Global, schema: &Schema, text: &[u8]) -> Option<Result<Plan, StatementFault>>
     requires schema { IsCatalog schema.now.catalog }
 {

@@ -1,8 +1,7 @@
 // Schemas, made of the texts of their statements.
 ghost use Rattle.std.specs.Prelude.{◌≡◌, true, IfSome};
 ghost use Rattle.chv_ast.specs.Formed.{FormedTable, FormedView};
-ghost use Rattle.chv_query.specs.Accepted.{Accepted, IsAccepted, is_built_create, is_built_table};
-ghost use Rattle.chv_plan.specs.Bound.{IsCatalog};
+ghost use Rattle.chv_query.specs.Accepted.{Accepted, IsAccepted, IsCatalog, is_built_create, is_built_table};
 
 use crate::making::{name_of, statement_of};
 use chv_ast::{CreateTable, CreateView, Statement};
@@ -54,7 +53,7 @@ fn add_built(alloc: Global, schema: &mut Schema, made: CreateTable) -> bool
     ensures schema { IsCatalog schema.new.catalog }
 {
     match define(alloc, schema, &made) {
-        Ok(def) => put(alloc, schema, Definition::Table(def)),
+        Ok(table) => put(alloc, schema, Definition::Table(table.def)),
         Err(_) => false,
     }
 }
@@ -65,7 +64,7 @@ fn add_view(alloc: Global, schema: &mut Schema, made: CreateView) -> bool
     ensures schema { IsCatalog schema.new.catalog }
 {
     match define_view(alloc, schema, made) {
-        Ok(def) => put(alloc, schema, Definition::View(def)),
+        Ok(view) => put(alloc, schema, Definition::View(view.def)),
         Err(_) => false,
     }
 }

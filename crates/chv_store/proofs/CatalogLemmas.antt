@@ -8,8 +8,8 @@ use Rattle.chv_catalog.specs.Schemas.{Catalog, definitions_in, kinds_of, no_defi
 use Rattle.chv_catalog.specs.declared.definition.Definition.{Definition}
 use Rattle.chv_catalog.specs.declared.definition.Definition.TheVariants.{Table, View}
 use Rattle.chv_catalog.specs.declared.table_def.TableDef.{TableDef}
-use Rattle.chv_query.specs.Accepted.{Accepted, AreTexts, IsAccepted, IsSchema, catalog_of, catalog_payload, tables_of}
-use Rattle.chv_query.proofs.AcceptedLemmas.{IsMade, IsSchema-push, all_made, catalog_of-push}
+use Rattle.chv_query.specs.Accepted.{Accepted, AreTexts, IsAccepted, IsCatalog, IsSchema, catalog_of, catalog_payload}
+use Rattle.chv_query.proofs.AcceptedLemmas.{IsMade, IsSchema-push, catalog_made, catalog_of-push}
 use Rattle.chv_gate.specs.GateLog.{frame_of, begun, IsReady}
 use Rattle.chv_gate.specs.Reading.{IsOpen, IsFollowed, IsReadUpTo}
 use Rattle.chv_gate.proofs.DamageLaws.{followed_unique, damage_of_begun, frames_of_begun}
@@ -20,7 +20,7 @@ use Rattle.chv_print.specs.StatementTexts.{statement_text}
 use Rattle.chv_site.specs.Files.{FileState, settled}
 use Rattle.chv_store.specs.Damage.{IsCatalogDamage}
 use Rattle.chv_store.specs.Openings.{MakesDefinition, TextMakesNone, ReadsDefinition, LacksDefinition, HoldsCatalog}
-use Rattle.chv_store.specs.Stores.{IsDefined, MAX_STEP}
+use Rattle.chv_store.specs.Stores.{MAX_STEP}
 use Rattle.chv_store.specs.declared.catalog.DefinitionRead.{DefinitionRead}
 use Rattle.chv_store.proofs.MakesLemmas.{makes_defined, makes_few, makes_frame}
 use Rattle.chv_store.proofs.SchemaLemmas.{next-AreTexts}
@@ -34,7 +34,7 @@ lacks_definition catalog gate file payload next read none = record {
 
 -- these numbers go by what was read, whatever the file holds
 pub record AreWithin (catalog : Catalog) (gate : ℕ) : Type 0 where
-  pub defined : IsDefined catalog
+  pub defined : IsCatalog catalog
   pub few : definitions_in catalog ≤ 256
   pub gate_is : gate ≤ MAX_STEP * definitions_in catalog
 
@@ -57,10 +57,9 @@ within_next catalog gate create definition next within makes place =
     }
 
 -- its tables have columns
-pub defined_columns : (catalog : Catalog) → IsDefined catalog → All (λ (def : TableDef). AreColumns (kinds_of def)) catalog.tables
+pub defined_columns : (catalog : Catalog) → IsCatalog catalog → All (λ (def : TableDef). AreColumns (kinds_of def)) catalog.tables
 defined_columns catalog defined =
-    subst (λ (c : Catalog). All (λ (def : TableDef). AreColumns (kinds_of def)) c.tables) defined.2
-    (All-weaker IsMade (λ (def : TableDef). AreColumns (kinds_of def)) (λ def made. record { some = made.some; most = made.most }) (tables_of defined.0) (all_made no_definitions defined.0 defined.1))
+    All-weaker IsMade (λ (def : TableDef). AreColumns (kinds_of def)) (λ def made. record { some = made.some; most = made.most }) catalog.tables (catalog_made catalog defined)
 
 -- the texts of what a catalog has are read, and their gates are open
 pub record HasDefinitions (catalog : Catalog) (gate : ℕ) (file : List ℕ) : Type 0 where

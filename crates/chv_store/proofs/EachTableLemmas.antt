@@ -89,10 +89,3 @@ each-all P R number [] [] so each = All-nil R
 each-all P R number [] (table ∷ tables) so each = absurd each
 each-all P R number (def ∷ defs) [] so each = absurd each
 each-all P R number (def ∷ defs) (table ∷ tables) so each = All-cons R table tables (so number def table each.0) (each-all P R (number + 1) defs tables so each.1)
-
--- a fact of the definitions alone
-pub each-def : (P : ℕ → TableDef → Table → Type 0) (R : TableDef → Type 0) (number : ℕ) (defs : List TableDef) (tables : List Table) → ((n : ℕ) (def : TableDef) (table : Table) → P n def table → R def)
-    → EachTable P number defs tables → All R defs
-each-def P R number [] tables so each = All-nil R
-each-def P R number (def ∷ defs) [] so each = absurd each
-each-def P R number (def ∷ defs) (table ∷ tables) so each = All-cons R def defs (so number def table each.0) (each-def P R (number + 1) defs tables so each.1)

@@ -19,8 +19,9 @@ use Rattle.chv_table.specs.Tables.{HoldsBook, HoldsCommits, IsTableOf, held_stat
 use Rattle.chv_table.specs.Tables.{IsPlaced as IsTablePlaced, IsWithin as IsTableWithin}
 use Rattle.chv_table.specs.declared.table.Table.{Table}
 use Rattle.chv_table.proofs.TableLemmas.{holds_commits_kept}
+use Rattle.chv_query.specs.Accepted.{IsCatalog}
 use Rattle.chv_store.specs.Holding.{HoldsBooks, HoldsLogs, with_book, with_one}
-use Rattle.chv_store.specs.Stores.{EachTable, IsDefined, IsHeldAs, IsPlaced, IsWithin, MAX_STEP}
+use Rattle.chv_store.specs.Stores.{EachTable, IsHeldAs, IsPlaced, IsWithin, MAX_STEP}
 use Rattle.chv_store.specs.declared.store.Store.{Store}
 use Rattle.chv_store.proofs.EachTableLemmas.{each-all, each-both, each-more, each-weaker, each-with-all}
 use Rattle.chv_store.proofs.PlaceLemmas.{with_one-other, with_one-same}
@@ -109,7 +110,7 @@ module _ (store : Store) (number : ℕ) (def : TableDef) (table : Table) (new : 
   one_more : length new.schema.catalog.tables ≡ number
   one_more = omega (arith, ap length made.schema, length-append store.schema.catalog.tables (def ∷ []), made.number_is)
 
-  pub made_within : IsDefined new.schema.catalog → definitions_in store.schema.catalog < 256 → new.catalog.gate ≤ store.catalog.gate + MAX_STEP → IsWithin new
+  pub made_within : IsCatalog new.schema.catalog → definitions_in store.schema.catalog < 256 → new.catalog.gate ≤ store.catalog.gate + MAX_STEP → IsWithin new
   made_within defined room gate = record {
     defined = defined;
     catalog = made.file ∙ made.within.catalog;

@@ -6,7 +6,7 @@ use Rattle.chv_ast.specs.declared.statement.Statement.{Statement}
 use Rattle.chv_catalog.specs.Schemas.{Catalog, definition_name, definitions_in, kinds_of, names_of, with_definition}
 use Rattle.chv_catalog.specs.declared.definition.Definition.{Definition}
 use Rattle.chv_catalog.specs.declared.table_def.TableDef.{TableDef}
-use Rattle.chv_query.specs.Accepted.{Accepted, IsAccepted, tables_in}
+use Rattle.chv_query.specs.Accepted.{Accepted, IsAccepted, IsCatalog, tables_in}
 use Rattle.chv_query.proofs.AcceptedLemmas as accepted
 use Rattle.chv_gate.specs.GateLog.{IsPayload, frame_of}
 use Rattle.chv_gate.proofs.GateLogLemmas.{length-frame_of}
@@ -14,7 +14,7 @@ use Rattle.chv_part.specs.Books.{AreColumns}
 use Rattle.chv_print.specs.StatementTexts.{statement_text}
 use Rattle.chv_types.specs.Names.{place_of}
 use Rattle.chv_store.specs.Openings.{MakesDefinition}
-use Rattle.chv_store.specs.Stores.{IsDefined, MAX_STEP}
+use Rattle.chv_store.specs.Stores.{MAX_STEP}
 
 module _ (catalog : Catalog) (create : Statement) (definition : Definition) (makes : MakesDefinition catalog create definition) where
   -- its name is free, and there is room for it
@@ -44,7 +44,7 @@ module _ (catalog : Catalog) (create : Statement) (definition : Definition) (mak
       (accepted.made_columns catalog create definition makes.passes.defines makes.passes.formed)
 
   -- with it the catalog is one that statements define
-  pub makes_defined : IsDefined catalog → (new : Catalog) → new ≡ with_definition definition catalog → IsDefined new
+  pub makes_defined : IsCatalog catalog → (new : Catalog) → new ≡ with_definition definition catalog → IsCatalog new
   makes_defined defined new is =
       let next : Accepted = record { statement = create; definition = definition } in (
         defined.0 ++ next ∷ [],

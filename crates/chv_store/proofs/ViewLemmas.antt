@@ -21,9 +21,10 @@ use Rattle.chv_table.specs.Tables.{HoldsBook, HoldsCommits}
 use Rattle.chv_table.specs.Tables.{IsPlaced as IsTablePlaced}
 use Rattle.chv_table.specs.declared.table.Table.{Table}
 use Rattle.chv_table.proofs.TableLemmas.{holds_commits_kept}
+use Rattle.chv_query.specs.Accepted.{IsCatalog}
 use Rattle.chv_store.specs.Calls.{EitherLeft, StandsFor}
 use Rattle.chv_store.specs.Holding.{HoldsBooks, HoldsLogs}
-use Rattle.chv_store.specs.Stores.{EachTable, IsDefined, IsHeldAs, IsPlaced, IsWithin, MAX_STEP, forms_of}
+use Rattle.chv_store.specs.Stores.{EachTable, IsHeldAs, IsPlaced, IsWithin, MAX_STEP, forms_of}
 use Rattle.chv_store.specs.declared.store.Store.{Store}
 use Rattle.chv_store.proofs.EachTableLemmas.{each-all, each-both, each-weaker, each-with-all}
 use Rattle.chv_store.proofs.StoreLemmas.{IsHeldWith, book_kept, catalog_apart, each-held, image_stands, log_number, placed_kept, short_left, table_stands}
@@ -42,7 +43,7 @@ module _ (store : Store) (log : Log) (schema : Seen) (def : ViewDef) (within : I
   one_more : definitions_in schema.catalog ≡ definitions_in store.schema.catalog + 1
   one_more = omega (arith, ap definitions_in catalog, length-append store.schema.catalog.views (def ∷ []))
 
-  pub viewed_within : IsDefined schema.catalog → definitions_in store.schema.catalog < 256 → log.gate ≤ store.catalog.gate + MAX_STEP → IsWithin Viewed
+  pub viewed_within : IsCatalog schema.catalog → definitions_in store.schema.catalog < 256 → log.gate ≤ store.catalog.gate + MAX_STEP → IsWithin Viewed
   viewed_within defined room gate = record {
     defined = defined;
     catalog = file ∙ within.catalog;

@@ -1,10 +1,9 @@
 -- What is held of a store, beside its files.
 use Rattle.std.specs.Prelude.{ℕ, ◌≡◌, ◌+◌, ◌-◌, ◌*◌, ◌<◌, ◌≤◌, List, [], ◌∷◌, length, map, get_or, Option, None, Some, slice_get}
 use Rattle.std.specs.List.{All}
-use Rattle.chv_catalog.specs.Schemas.{Catalog, MAX_DEFINITIONS, definitions_in}
+use Rattle.chv_catalog.specs.Schemas.{MAX_DEFINITIONS, definitions_in}
 use Rattle.chv_catalog.specs.declared.table_def.TableDef.{TableDef}
 use Rattle.chv_commit.specs.Replays.{State, no_state}
-use Rattle.chv_query.specs.Accepted.{Accepted, IsSchema, catalog_of}
 use Rattle.chv_part.specs.Books.{TableForm}
 use Rattle.chv_part.specs.Forms.{form_of}
 use Rattle.chv_site.specs.FileIds.{catalog_log}
@@ -14,6 +13,7 @@ use Rattle.chv_site.specs.declared.file_id.FileId.{FileId}
 use Rattle.chv_table.specs.Tables.{IsTableOf, HasRoomFor, held_state}
 use Rattle.chv_table.specs.Tables.{IsWithin as IsTableWithin, IsPlaced as IsTablePlaced}
 use Rattle.chv_table.specs.declared.table.Table.{Table}
+use Rattle.chv_query.specs.Accepted.{IsCatalog}
 use Rattle.chv_store.specs.declared.store.Store.{Store}
 
 -- for each definition there is a table, and this is a fact of its number, of the definition and of what is held of it; the
@@ -32,13 +32,9 @@ IsHeldAs number def table = IsTableWithin table × IsTableOf number def table
 abbrev pub MAX_STEP : ℕ
 MAX_STEP = 1048581
 
--- this is what statements define that are accepted one after the other
-abbrev pub IsDefined : Catalog → Type 0
-IsDefined catalog = (schema : List Accepted) × IsSchema schema × (catalog_of schema ≡ catalog)
-
 -- what is held of a store, whatever its files hold
 pub record IsWithin (store : Store) : Type 0 where
-  pub defined : IsDefined store.schema.catalog
+  pub defined : IsCatalog store.schema.catalog
   pub catalog : store.catalog.file ≡ catalog_log
   pub few : definitions_in store.schema.catalog ≤ MAX_DEFINITIONS
   pub gate : store.catalog.gate ≤ MAX_STEP * definitions_in store.schema.catalog

@@ -9,9 +9,10 @@ ghost use Rattle.chv_print.specs.StatementTexts.{statement_text};
 ghost use Rattle.chv_site.specs.Effects.{OnlyReads, ChangesOnly};
 ghost use Rattle.chv_site.specs.FileIds.{catalog_log};
 ghost use Rattle.chv_site.specs.Outside.{bytes_in};
+ghost use Rattle.chv_query.specs.Accepted.{IsCatalog};
 ghost use Rattle.chv_store.specs.Damage.{IsCatalogDamage};
 ghost use Rattle.chv_store.specs.Openings.{MakesDefinition, ReadsDefinition, LacksDefinition, HoldsCatalog, catalog_fault_of};
-ghost use Rattle.chv_store.specs.Stores.{IsDefined, MAX_STEP};
+ghost use Rattle.chv_store.specs.Stores.{MAX_STEP};
 
 use crate::defining::read_create;
 use chv_catalog::{Definition, Schema};
@@ -30,7 +31,7 @@ pub fn open_catalog<W: Site>(
     requires { schema.old.catalog ≡ no_definitions }
     // On any site: statements define what is there, which are few, and have moved the gate of the catalog's log by so much at most.
     ensures log { IfOk result (λ log. (log.file ≡ catalog_log) × (log.gate ≤ MAX_STEP * definitions_in schema.new.catalog)) }
-    ensures defined { OnOk result (IsDefined schema.new.catalog × (definitions_in schema.new.catalog ≤ MAX_DEFINITIONS)) }
+    ensures defined { OnOk result (IsCatalog schema.new.catalog × (definitions_in schema.new.catalog ≤ MAX_DEFINITIONS)) }
     // They are those of the log, which is not damaged.
     ensures holds { W.tells → IfOk result (λ log. HoldsCatalog schema.new.catalog log.gate (bytes_in (W.outside site.old) catalog_log) ((W.outside site.new).files catalog_log)) }
     ensures damaged { W.tells → (damage : Damage) → IsErrOf result (TableFault.Damaged damage) → IsCatalogDamage (bytes_in (W.outside site.old) catalog_log) damage }

@@ -8,7 +8,6 @@ use crate::reading::read;
 use chv_ast::{CreateTable, CreateView, Statement};
 use chv_catalog::{Definition, Schema, StatementFault};
 use chv_define::{define, define_view, is_built_table};
-use chv_print::{table_text, view_text};
 use std::alloc::{AllocError, Global};
 
 /// What a canonical text makes beside the tables and views that stand; None for each other text, be it other by a single
@@ -59,12 +58,13 @@ fn table_of(
     if !is_built_table(made) {
         return Ok(None);
     }
-    let canonical = table_text(alloc, made)?;
-    if canonical.as_slice() != text {
-        return Ok(None);
-    }
     match define(alloc, schema, made) {
-        Ok(def) => Ok(Some(Definition::Table(def))),
+        Ok(table) => {
+            if table.text.as_slice() != text {
+                return Ok(None);
+            }
+            Ok(Some(Definition::Table(table.def)))
+        }
         Err(StatementFault::Refused(_)) => Ok(None),
         Err(StatementFault::NoMemory) => Err(AllocError),
     }
@@ -81,12 +81,13 @@ fn view_of(
     ensures none { IfOk result (λ read. IfNone read (TextMakesNone schema.now.catalog text.now)) }
     ensures some { IfOk result (λ read. IfSome read (λ definition. TextMakes schema.now.catalog text.now definition)) }
 {
-    let canonical = view_text(alloc, &made)?;
-    if canonical.as_slice() != text {
-        return Ok(None);
-    }
     match define_view(alloc, schema, made) {
-        Ok(def) => Ok(Some(Definition::View(def))),
+        Ok(view) => {
+            if view.text.as_slice() != text {
+                return Ok(None);
+            }
+            Ok(Some(Definition::View(view.def)))
+        }
         Err(StatementFault::Refused(_)) => Ok(None),
         Err(StatementFault::NoMemory) => Err(AllocError),
     }

@@ -1,5 +1,5 @@
 // How a block is delivered.
-ghost use Rattle.std.specs.Prelude.{◌≡◌, ◌+◌, ◌≤◌, List, ℕ, Bool, true, not, nat_lt, IfOk, OnOk, IsErr};
+ghost use Rattle.std.specs.Prelude.{◌≡◌, ◌+◌, ◌≤◌, List, ℕ, true, not, nat_lt, IfOk, OnOk, IsErr};
 ghost use Rattle.chv_commit.specs.Replays.{MAX_ENTRIES};
 ghost use Rattle.chv_commit.specs.declared.commit.Commit.{Commit};
 ghost use Rattle.chv_part.specs.Books.{Book, Entry};

@@ -28,16 +28,16 @@ returns-in_err-window-clause-refused c =
     (refused-window c.args.schema.now.catalog c.args.made.now _ (sym c.check_names.ensures.checked ∙ c.in_ok-check_names.was)
     c.in_ok-columns.ensures.columns _ (sym c.check_key.ensures ∙ c.in_ok-check_key.was) (sym c.window_of.ensures ∙ c.in_err-window.was))
 
-pub returns-in_err-check_text-clause-refused : goal.returns-in_err-check_text-clause-refused
-returns-in_err-check_text-clause-refused c =
-    passed_on c.from_residual-in_err-check_text.result _ (λ refusal. defined c.args.schema.now.catalog c.args.made.now ≡ Err refusal) c.from_residual-in_err-check_text.ensures.1
+pub returns-in_err-text-clause-refused : goal.returns-in_err-text-clause-refused
+returns-in_err-text-clause-refused c =
+    passed_on c.from_residual-in_err-text.result _ (λ refusal. defined c.args.schema.now.catalog c.args.made.now ≡ Err refusal) c.from_residual-in_err-text.ensures.1
     (λ refusal told. refused-text c.args.schema.now.catalog c.args.made.now _ (sym c.check_names.ensures.checked ∙ c.in_ok-check_names.was)
     c.in_ok-columns.ensures.columns refusal _ (sym c.check_key.ensures ∙ c.in_ok-check_key.was) (sym c.window_of.ensures ∙ c.in_ok-window.was)
-    (c.in_err-check_text.ensures.long refusal told))
+    (c.in_err-text.ensures.long refusal told))
 
 pub returns-clause-defined : goal.returns-clause-defined
 returns-clause-defined c =
     defined-passed c.args.schema.now.catalog c.args.made.now _ (sym c.check_names.ensures.checked ∙ c.in_ok-check_names.was)
     c.in_ok-columns.ensures.columns _ (sym c.check_key.ensures ∙ c.in_ok-check_key.was) (sym c.window_of.ensures ∙ c.in_ok-window.was)
-    c.in_ok-check_text.ensures.short
+    c.in_ok-text.ensures.short
     ∙ rw (c.in_ok-from_slice.ensures, c.as_slice.ensures, c.columns.view_is, c.engine_of.ensures, c.in_ok-places_of.ensures, c.as_slice-2.ensures, c.as_slice-3.ensures, map-id c.args.made.now.key) refl

@@ -28,16 +28,16 @@ returns-in_err-check_paths-clause-refused c =
     c.in_ok-link.link c.table_def-target.result.now (sym c.link_of.ensures.link ∙ c.in_ok-link.was) c.table_def-target.ensures
     c.in_ok-check_select.ensures.passed _ (sym c.check_paths.ensures ∙ c.in_err-check_paths.was))
 
-pub returns-in_err-check_view_text-clause-refused : goal.returns-in_err-check_view_text-clause-refused
-returns-in_err-check_view_text-clause-refused c =
-    passed_on c.from_residual-in_err-check_view_text.result _ (λ refusal. defined_view c.args.schema.now.catalog c.args.made.now ≡ Err refusal) c.from_residual-in_err-check_view_text.ensures.1
+pub returns-in_err-text-clause-refused : goal.returns-in_err-text-clause-refused
+returns-in_err-text-clause-refused c =
+    passed_on c.from_residual-in_err-text.result _ (λ refusal. defined_view c.args.schema.now.catalog c.args.made.now ≡ Err refusal) c.from_residual-in_err-text.ensures.1
     (λ refusal told. refused-view-text c.args.schema.now.catalog c.args.made.now (sym c.check_free.ensures ∙ c.in_ok-check_free.was)
     c.in_ok-link.link c.table_def-target.result.now (sym c.link_of.ensures.link ∙ c.in_ok-link.was) c.table_def-target.ensures
     c.in_ok-check_select.ensures.passed refusal (sym c.check_paths.ensures ∙ c.in_ok-check_paths.was)
-    (c.in_err-check_view_text.ensures.long refusal told))
+    (c.in_err-text.ensures.long refusal told))
 
 pub returns-clause-passed : goal.returns-clause-passed
 returns-clause-passed c =
     defined-view c.args.schema.now.catalog c.args.made.now (sym c.check_free.ensures ∙ c.in_ok-check_free.was)
     c.in_ok-link.link c.table_def-target.result.now (sym c.link_of.ensures.link ∙ c.in_ok-link.was) c.table_def-target.ensures
-    c.in_ok-check_select.ensures.passed (sym c.check_paths.ensures ∙ c.in_ok-check_paths.was) c.in_ok-check_view_text.ensures.short
+    c.in_ok-check_select.ensures.passed (sym c.check_paths.ensures ∙ c.in_ok-check_paths.was) c.in_ok-text.ensures.short

@@ -1,11 +1,24 @@
--- A CREATE is refused; or memory runs out before anything is done.
-use Rattle.std.proofs.Common.{◌≡◌, Err, subst}
+-- A table is made; or a CREATE is refused; or memory runs out before anything is done.
+use Rattle.std.proofs.Common.{◌≡◌, Ok, Err, subst}
+use Rattle.chv_ast.specs.declared.statement.Statement.TheVariants as statement
 use Rattle.chv_catalog.specs.declared.schema.Schema.{Schema}
 use Rattle.chv_query.specs.Definitions.{defined}
 use Rattle.chv_engine.specs.Answers.{create_wish}
 use Rattle.chv_engine.proofs.AnswerLemmas.{holds_itself, no_memory_answers, refused_answers}
-use Rattle.chv_engine.proofs.CreateLemmas.{create_refused}
+use Rattle.chv_engine.proofs.CreateLemmas.{create_refused, makes_table}
 use Rattle.chv_engine.proofs.create.create.Goals as goal
+
+pub make-requires-clause-makes : goal.make-requires-clause-makes
+make-requires-clause-makes g c =
+    let store = c.args.store.now in
+    let is : defined store.schema.catalog c.args.made.now ≡ Ok c.in-Ok.table.def = subst (λ (schema : Schema). defined schema.catalog c.args.made.now ≡ Ok c.in-Ok.table.def) c.schema.ensures c.in-Ok.ensures.defined in
+    (statement.CreateTable c.args.made.now, makes_table store.schema.catalog c.args.made.now c.in-Ok.table.def c.requires.formed c.requires.built is, c.in-Ok.ensures.text)
+
+pub returns-in-Ok : goal.returns-in-Ok
+returns-in-Ok g c =
+    let store = c.args.store.now in
+    let is : defined store.schema.catalog c.args.made.now ≡ Ok c.in-Ok.table.def = subst (λ (schema : Schema). defined schema.catalog c.args.made.now ≡ Ok c.in-Ok.table.def) c.schema.ensures c.in-Ok.ensures.defined in
+    c.make.ensures c.args.made.now (makes_table store.schema.catalog c.args.made.now c.in-Ok.table.def c.requires.formed c.requires.built is) (c.in-Ok.ensures.text)
 
 pub returns-in-Err-Refused : goal.returns-in-Err-Refused
 returns-in-Err-Refused g c =

@@ -11,14 +11,14 @@ use Rattle.chv_engine.proofs.create.create_view.Goals as goal
 pub make_view-requires-clause-makes : goal.make_view-requires-clause-makes
 make_view-requires-clause-makes g c =
     let store = c.args.store.now in
-    let is : defined_view store.schema.catalog c.args.made ≡ Ok c.in-Ok.viewed.def = subst (λ (schema : Schema). defined_view schema.catalog c.args.made ≡ Ok c.in-Ok.viewed.def) c.schema.ensures c.in-Ok.ensures.defined in
-    (statement.CreateView c.args.made, makes_view store.schema.catalog c.args.made c.in-Ok.viewed.def c.requires.formed is, c.in-Ok.ensures.text)
+    let is : defined_view store.schema.catalog c.args.made ≡ Ok c.in-Ok.view.def = subst (λ (schema : Schema). defined_view schema.catalog c.args.made ≡ Ok c.in-Ok.view.def) c.schema.ensures c.in-Ok.ensures.defined in
+    (statement.CreateView c.args.made, makes_view store.schema.catalog c.args.made c.in-Ok.view.def c.requires.formed is, c.in-Ok.ensures.text)
 
 pub returns-in-Ok : goal.returns-in-Ok
 returns-in-Ok g c =
     let store = c.args.store.now in
-    let is : defined_view store.schema.catalog c.args.made ≡ Ok c.in-Ok.viewed.def = subst (λ (schema : Schema). defined_view schema.catalog c.args.made ≡ Ok c.in-Ok.viewed.def) c.schema.ensures c.in-Ok.ensures.defined in
-    c.make_view.ensures c.args.made (makes_view store.schema.catalog c.args.made c.in-Ok.viewed.def c.requires.formed is) (c.in-Ok.ensures.text)
+    let is : defined_view store.schema.catalog c.args.made ≡ Ok c.in-Ok.view.def = subst (λ (schema : Schema). defined_view schema.catalog c.args.made ≡ Ok c.in-Ok.view.def) c.schema.ensures c.in-Ok.ensures.defined in
+    c.make_view.ensures c.args.made (makes_view store.schema.catalog c.args.made c.in-Ok.view.def c.requires.formed is) (c.in-Ok.ensures.text)
 
 pub returns-in-Err-Refused : goal.returns-in-Err-Refused
 returns-in-Err-Refused g c =

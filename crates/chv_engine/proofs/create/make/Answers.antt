@@ -1,22 +1,33 @@
 -- A table is made, and a reply says it; or a fault ends it.
-use Rattle.std.proofs.Common.{◌∙◌}
+use Rattle.std.proofs.Common.{ℕ, List, subst, ◌∙◌}
 use Rattle.std.proofs.lemmas.Result.{err_from_is_err_and}
-use Rattle.chv_engine.proofs.CreateLemmas.{create_answers, create_ended}
+use Rattle.chv_engine.proofs.CreateLemmas.{HasCreated, create_answers, create_ended}
 use Rattle.chv_engine.proofs.create.make.Goals as goal
 
+pub create-requires-clause-makes : goal.create-requires-clause-makes
+create-requires-clause-makes g c = let makes = c.requires.makes in (makes.0, makes.1, c.as_slice.ensures.value ∙ makes.2)
+
 pub returns-in_err-create : goal.returns-in_err-create
-returns-in_err-create g c =
+returns-in_err-create g c = λ made makes text.
     let S = g.W.Site in
     let call = c.create.ensures in
     let p = err_from_is_err_and c.from_residual.result c.from_residual.ensures.1 in
+    let old = S.outside c.args.site.now in
+    let new = S.outside c.create.new.site in
+    let def = c.args.table.def in
+    let has : HasCreated S.tells c.create.result c.args.store.now c.create.new.self c.as_slice.result.now def old new = record { created = call.created; logged = call.logged; held = call.held; keeps = call.keeps } in
     rw (p.1, p.2)
-    (create_ended S.tells c.args.client c.create.result c.args.store.now c.create.new.self c.args.made.now c.args.def (S.outside c.args.site.now) (S.outside c.create.new.site) c.requires.usable c.requires.makes
-    (record { created = call.created; logged = call.logged; held = call.held; keeps = call.keeps }) c.in_err-create.field-0.0 c.in_err-create.was)
+    (create_ended S.tells c.args.client c.create.result c.args.store.now c.create.new.self made def old new c.requires.usable makes
+    (subst (λ (t : List ℕ). HasCreated S.tells c.create.result c.args.store.now c.create.new.self t def old new) (c.as_slice.ensures.value ∙ text) has) c.in_err-create.field-0.0 c.in_err-create.was)
 
 pub returns : goal.returns
-returns g c =
+returns g c = λ made makes text.
     let S = g.W.Site in
     let call = c.create.ensures in
-    create_answers S.tells c.args.client c.create.result c.args.store.now c.create.new.self c.args.made.now c.args.def (S.outside c.args.site.now) (S.outside c.create.new.site) c.requires.usable c.requires.makes
-    (record { created = call.created; logged = call.logged; held = call.held; keeps = call.keeps }) c.in_ok-create.was c.in_ok-create.ensures.usable c.as_slice.result.now (c.as_slice.ensures.bytes ∙ c.line_ok.ensures)
-    c.reply.result (S.outside c.reply.new.site) c.reply.ensures
+    let old = S.outside c.args.site.now in
+    let new = S.outside c.create.new.site in
+    let def = c.args.table.def in
+    let has : HasCreated S.tells c.create.result c.args.store.now c.create.new.self c.as_slice.result.now def old new = record { created = call.created; logged = call.logged; held = call.held; keeps = call.keeps } in
+    create_answers S.tells c.args.client c.create.result c.args.store.now c.create.new.self made def old new c.requires.usable makes
+    (subst (λ (t : List ℕ). HasCreated S.tells c.create.result c.args.store.now c.create.new.self t def old new) (c.as_slice.ensures.value ∙ text) has) c.in_ok-create.was c.in_ok-create.ensures.usable
+    c.as_slice-2.result.now (c.as_slice-2.ensures.bytes ∙ c.line_ok.ensures) c.reply.result (S.outside c.reply.new.site) c.reply.ensures

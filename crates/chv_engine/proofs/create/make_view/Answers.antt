@@ -14,7 +14,7 @@ returns-in_err-create_view g c = λ made makes text.
     let p = err_from_is_err_and c.from_residual.result c.from_residual.ensures.1 in
     let old = S.outside c.args.site.now in
     let new = S.outside c.create_view.new.site in
-    let def = c.args.viewed.def in
+    let def = c.args.view.def in
     let has : HasViewed S.tells c.create_view.result c.args.store.now c.create_view.new.self c.as_slice.result.now def old new = record { created = call.created; logged = call.logged; held = call.held; keeps = call.keeps } in
     rw (p.1, p.2)
     (view_ended S.tells c.args.client c.create_view.result c.args.store.now c.create_view.new.self made def old new c.requires.usable makes
@@ -26,7 +26,7 @@ returns g c = λ made makes text.
     let call = c.create_view.ensures in
     let old = S.outside c.args.site.now in
     let new = S.outside c.create_view.new.site in
-    let def = c.args.viewed.def in
+    let def = c.args.view.def in
     let has : HasViewed S.tells c.create_view.result c.args.store.now c.create_view.new.self c.as_slice.result.now def old new = record { created = call.created; logged = call.logged; held = call.held; keeps = call.keeps } in
     view_answers S.tells c.args.client c.create_view.result c.args.store.now c.create_view.new.self made def old new c.requires.usable makes
     (subst (λ (t : List ℕ). HasViewed S.tells c.create_view.result c.args.store.now c.create_view.new.self t def old new) (c.as_slice.ensures.value ∙ text) has) c.in_ok-create_view.was c.in_ok-create_view.ensures.usable

@@ -6,11 +6,8 @@ use Rattle.chv_plan.specs.Deliveries.{DeliversAll}
 use Rattle.chv_plan.specs.declared.delivery.Delivery.{Delivery as HeldDelivery}
 use Rattle.chv_engine.specs.Answers.{insert_wish, plan_wish}
 use Rattle.chv_engine.proofs.AnswerLemmas.{holds_itself, no_memory_answers, refused_answers, same_wish}
-use Rattle.chv_engine.proofs.InsertLemmas.{all_few, insert_asks, insert_refused}
+use Rattle.chv_engine.proofs.InsertLemmas.{insert_asks, insert_refused}
 use Rattle.chv_engine.proofs.insert.insert.Goals as goal
-
-pub plan_insert-requires-clause-few : goal.plan_insert-requires-clause-few
-plan_insert-requires-clause-few g c = rw c.schema.ensures (all_few c.args.store.now c.requires.usable.within)
 
 pub plan_insert-requires-clause-schema : goal.plan_insert-requires-clause-schema
 plan_insert-requires-clause-schema g c = rw c.schema.ensures c.requires.usable.within.defined

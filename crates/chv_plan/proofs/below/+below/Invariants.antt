@@ -10,4 +10,4 @@ abbrev pub decreases-deliveries_through : goal.decreases-deliveries_through
 decreases-deliveries_through l = 2 * l.room + 1
 
 abbrev pub invariant-deliveries_below-loop-view : goal.invariant-deliveries_below-loop-view
-invariant-deliveries_below-loop-view l = IsDone l.schema.catalog l.id l.path l.rows l.room l.table l.view l.deliveries.items
+invariant-deliveries_below-loop-view l = IsDone l.bound.schema.now.catalog l.id l.path l.rows l.room l.table l.view l.deliveries.items

@@ -1,5 +1,7 @@
-use Rattle.std.proofs.Common.{◌≡◌, ◌≤◌, ◌+◌, Some, Ok, option_map, sym, ◌∙◌}
+use Rattle.std.proofs.Common.{◌≡◌, ◌≤◌, ◌+◌, ◌-◌, Some, Ok, option_map, sym, ◌∙◌}
 use Rattle.std.proofs.lemmas.Result.{IfOk-weaker}
+use Rattle.chv_query.proofs.AcceptedLemmas.{IsMade, catalog_made}
+use Rattle.chv_query.proofs.GrowthLemmas.{All-at}
 use Rattle.chv_query.specs.Tables.{table_of}
 use Rattle.chv_catalog.specs.Schemas.{table_names}
 use Rattle.chv_types.specs.Names.{place_of}
@@ -13,6 +15,11 @@ found c =
     let is : Some c.in-Some.number ≡ option_map (λ place. place + 1) (place_of c.args.insert.now.table (table_names c.args.schema.now.catalog.tables)) =
     sym c.in-Some.is ∙ (rw c.as_slice.ensures at c.table.ensures) in
     found_table c.args.schema.now.catalog c.args.insert.now.table c.in-Some.number c.table_def.result.now is c.table_def.ensures
+
+pub plan_for-requires-clause-few : goal.plan_for-requires-clause-few
+plan_for-requires-clause-few c =
+    let catalog = c.args.schema.now.catalog in
+    (All-at IsMade catalog.tables (c.in-Some.number - 1) c.table_def.result.now (catalog_made catalog c.requires.schema) c.table_def.ensures).most
 
 pub returns-in-Some-clause-planned : goal.returns-in-Some-clause-planned
 returns-in-Some-clause-planned c =

@@ -1,6 +1,10 @@
+-- The views on the paths so far are bound.
 use Rattle.std.proofs.Common.{take}
-use Rattle.chv_plan.specs.Bound.{AreBound}
+use Rattle.chv_plan.specs.Bound.{AreBound, AreThere}
 use Rattle.chv_plan.proofs.views.bind_views.Given as goal
 
-abbrev pub invariant-loop-view : goal.invariant-loop-view
-invariant-loop-view l = AreBound l.schema.catalog (take l.view l.schema.catalog.views) l.bound.items
+abbrev pub invariant-loop-path : goal.invariant-loop-path
+invariant-loop-path l = record {
+  bound : AreBound l.schema.catalog l.bound.items;
+  there : AreThere l.bound.items (take l.path-index l.path-items);
+}

@@ -5,4 +5,4 @@ use Rattle.chv_statement_tests.proofs.schemas.add_built.Goals as goal
 
 pub put-requires-clause-accepted : goal.put-requires-clause-accepted
 put-requires-clause-accepted c =
-    (record { statement = statement.CreateTable c.args.made; definition = Table c.in-Ok.def }, refl, c.requires.built, record { formed = c.requires.formed; defines = c.in-Ok.ensures.defined })
+    (record { statement = statement.CreateTable c.args.made; definition = Table c.in-Ok.table.def }, refl, c.requires.built, record { formed = c.requires.formed; defines = c.in-Ok.ensures.defined })

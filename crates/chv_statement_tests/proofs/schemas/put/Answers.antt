@@ -1,6 +1,6 @@
 use Rattle.std.proofs.Common.{subst, sym}
 use Rattle.chv_catalog.specs.Schemas.{Seen}
-use Rattle.chv_plan.specs.Bound.{IsCatalog}
+use Rattle.chv_query.specs.Accepted.{IsCatalog}
 use Rattle.chv_statement_tests.proofs.SchemaLemmas.{few_there, free_there, one_there}
 use Rattle.chv_statement_tests.proofs.schemas.put.Goals as goal
 

@@ -1,14 +1,12 @@
 -- A table more: its own log is begun, and then the catalog has its text.
-use Rattle.std.proofs.Common.{◌≡◌, ℕ, ◌+◌, ◌<◌, ◌≤◌, None, [], ◌∷◌, ◌++◌, length, refl, sym, ap, subst, ◌∙◌, arith}
+use Rattle.std.proofs.Common.{◌≡◌, ℕ, ◌+◌, ◌<◌, ◌≤◌, List, None, [], ◌∷◌, ◌++◌, length, refl, sym, ap, subst, ◌∙◌, arith}
 use Rattle.std.proofs.lemmas.List.Elements.{All-head}
 use Rattle.std.proofs.lemmas.Result.{err_from_is_err_and}
-use Rattle.chv_ast.specs.declared.statement.Statement.TheVariants as statement
 use Rattle.chv_catalog.specs.Schemas.{Catalog, Seen, definitions_in, kinds_of, names_of, with_definition}
 use Rattle.chv_catalog.specs.declared.definition.Definition.TheVariants.{Table}
 use Rattle.chv_catalog.specs.declared.table_def.TableDef.{TableDef}
-use Rattle.chv_gate.specs.GateLog.{IsReady}
+use Rattle.chv_gate.specs.GateLog.{IsPayload, IsReady, frame_of}
 use Rattle.chv_part.specs.Books.{AreColumns, no_book}
-use Rattle.chv_print.specs.StatementTexts.{statement_text}
 use Rattle.chv_site.specs.FileIds.{table_log}
 use Rattle.chv_site.specs.declared.file_id.FileId.{FileId}
 use Rattle.chv_table.proofs.TableLemmas.{holds_commits_kept}
@@ -16,36 +14,35 @@ use Rattle.chv_types.specs.Names.{place_of}
 use Rattle.chv_store.specs.declared.store.Store.{Store}
 use Rattle.chv_store.proofs.CreateLemmas.{catalog_ready, log_during, log_most, made_during, none_during, turns_err}
 use Rattle.chv_store.proofs.MadeLemmas.{behind_same, catalog_same, is_made, made_books, made_logs, made_placed, made_within, new_commits, tables_kept}
-use Rattle.chv_store.proofs.MakesLemmas.{makes_columns, makes_defined, makes_few, makes_frame, makes_free, makes_payload, makes_short, makes_some}
+use Rattle.chv_store.proofs.MakesLemmas.{makes_columns, makes_defined, makes_few, makes_frame, makes_free, makes_payload}
 use Rattle.chv_store.proofs.StoreLemmas.{book_kept, placed_kept}
 use Rattle.chv_store.proofs.store.Store.create.Goals as goal
 
-pub spell-requires-clause-short : goal.spell-requires-clause-short
-spell-requires-clause-short g c = makes_short c.args.self.now.schema.catalog (statement.CreateTable c.args.create.now) (Table c.args.def) c.requires.makes
-
-pub spell-requires-clause-some : goal.spell-requires-clause-some
-spell-requires-clause-some g c = makes_some c.args.self.now.schema.catalog (statement.CreateTable c.args.create.now) (Table c.args.def) c.requires.makes
+pub frame-requires : goal.frame-requires
+frame-requires g c =
+    let makes = c.requires.makes in
+    subst IsPayload (sym makes.2) (makes_payload c.args.self.now.schema.catalog makes.0 (Table c.args.def) makes.1)
 
 pub begin_table-requires : goal.begin_table-requires
-begin_table-requires g c = record { columns = All-head (λ (def : TableDef). AreColumns (kinds_of def)) c.args.def [] (makes_columns c.args.self.now.schema.catalog (statement.CreateTable c.args.create.now) (Table c.args.def) c.requires.makes) }
+begin_table-requires g c = record { columns = All-head (λ (def : TableDef). AreColumns (kinds_of def)) c.args.def [] (makes_columns c.args.self.now.schema.catalog c.requires.makes.0 (Table c.args.def) c.requires.makes.1) }
 
 pub accept-requires-clause-free : goal.accept-requires-clause-free
 accept-requires-clause-free g c =
     subst (λ (catalog : Catalog). place_of c.args.def.name (names_of catalog) ≡ None) (sym c.in_ok-reserve_one.ensures.catalog)
-    (makes_free c.args.self.now.schema.catalog (statement.CreateTable c.args.create.now) (Table c.args.def) c.requires.makes)
+    (makes_free c.args.self.now.schema.catalog c.requires.makes.0 (Table c.args.def) c.requires.makes.1)
 
 pub accept-requires-clause-few : goal.accept-requires-clause-few
 accept-requires-clause-few g c =
-    omega (arith, ap definitions_in c.in_ok-reserve_one.ensures.catalog, makes_few c.args.self.now.schema.catalog (statement.CreateTable c.args.create.now) (Table c.args.def) c.requires.makes)
+    omega (arith, ap definitions_in c.in_ok-reserve_one.ensures.catalog, makes_few c.args.self.now.schema.catalog c.requires.makes.0 (Table c.args.def) c.requires.makes.1)
 
 -- before the first call on the disk
-pub returns-in_err-frame-clause-created : goal.returns-in_err-frame-clause-created
-returns-in_err-frame-clause-created g c = λ tells payloads books held.
+pub returns-in_err-framed-clause-created : goal.returns-in_err-framed-clause-created
+returns-in_err-framed-clause-created g c = λ tells payloads books held.
     let self = c.args.self.now in
     let site = c.args.site.now in
     let p = err_from_is_err_and c.from_residual.result c.from_residual.ensures.1 in
     turns_err _ p.0 _ _ _ _ _ p.1
-    (none_during self (g.W.Site.outside site) payloads books (statement_text (statement.CreateTable c.args.create.now)) c.args.def (length self.schema.catalog.tables + 1) c.requires.usable.within held refl (g.met.W.Site.only_now site))
+    (none_during self (g.W.Site.outside site) payloads books c.args.text.now c.args.def (length self.schema.catalog.tables + 1) c.requires.usable.within held refl (g.met.W.Site.only_now site))
 
 pub returns-in_err-reserve_one-clause-created : goal.returns-in_err-reserve_one-clause-created
 returns-in_err-reserve_one-clause-created g c = λ tells payloads books held.
@@ -53,7 +50,7 @@ returns-in_err-reserve_one-clause-created g c = λ tells payloads books held.
     let site = c.args.site.now in
     let p = err_from_is_err_and c.from_residual-in_err-reserve_one.result c.from_residual-in_err-reserve_one.ensures.1 in
     turns_err _ p.0 _ _ _ _ _ p.1
-    (none_during self (g.W.Site.outside site) payloads books (statement_text (statement.CreateTable c.args.create.now)) c.args.def (length self.schema.catalog.tables + 1) c.requires.usable.within held refl (g.met.W.Site.only_now site))
+    (none_during self (g.W.Site.outside site) payloads books c.args.text.now c.args.def (length self.schema.catalog.tables + 1) c.requires.usable.within held refl (g.met.W.Site.only_now site))
 
 pub returns-in_err-reserve-clause-created : goal.returns-in_err-reserve-clause-created
 returns-in_err-reserve-clause-created g c = λ tells payloads books held.
@@ -61,7 +58,7 @@ returns-in_err-reserve-clause-created g c = λ tells payloads books held.
     let site = c.args.site.now in
     let p = err_from_is_err_and c.from_residual-in_err-reserve.result c.from_residual-in_err-reserve.ensures.1 in
     turns_err _ p.0 _ _ _ _ _ p.1
-    (none_during self (g.W.Site.outside site) payloads books (statement_text (statement.CreateTable c.args.create.now)) c.args.def (length self.schema.catalog.tables + 1) c.requires.usable.within held refl (g.met.W.Site.only_now site))
+    (none_during self (g.W.Site.outside site) payloads books c.args.text.now c.args.def (length self.schema.catalog.tables + 1) c.requires.usable.within held refl (g.met.W.Site.only_now site))
 
 -- the table's log is begun
 pub returns-in_err-table-clause-created : goal.returns-in_err-table-clause-created
@@ -71,7 +68,7 @@ returns-in_err-table-clause-created g c = λ tells payloads books held.
     let is : number ≡ length self.schema.catalog.tables + 1 = ap (λ (n : ℕ). n + 1) (c.tables-number.ensures.count ∙ ap (λ (catalog : Catalog). length catalog.tables) c.in_ok-reserve_one.ensures.catalog) in
     let p = err_from_is_err_and c.from_residual-in_err-table.result c.from_residual-in_err-table.ensures.1 in
     turns_err _ p.0 _ _ _ _ _ p.1
-    (log_during self (g.W.Site.outside c.args.site.now) payloads books (statement_text (statement.CreateTable c.args.create.now)) c.args.def number c.requires.usable.within held is (g.W.Site.outside c.begin_table.new.site) (c.in_err-table.ensures.during tells))
+    (log_during self (g.W.Site.outside c.args.site.now) payloads books c.args.text.now c.args.def number c.requires.usable.within held is (g.W.Site.outside c.begin_table.new.site) (c.in_err-table.ensures.during tells))
 
 -- and then its text is appended, whole or not
 pub returns-in_err-append-clause-created : goal.returns-in_err-append-clause-created
@@ -83,9 +80,9 @@ returns-in_err-append-clause-created g c = λ tells payloads books held.
     let begun = c.in_ok-table.ensures in
     let p = err_from_is_err_and c.from_residual-in_err-append.result c.from_residual-in_err-append.ensures.1 in
     turns_err _ p.0 _ _ _ _ _ p.1
-    (made_during self (g.W.Site.outside site) payloads books (statement_text (statement.CreateTable c.args.create.now)) c.args.def number c.requires.usable.within held is (g.W.Site.outside c.begin_table.new.site) (g.W.Site.outside c.append.new.site) c.deref.result.now
+    (made_during self (g.W.Site.outside site) payloads books c.args.text.now c.args.def number c.requires.usable.within held is (g.W.Site.outside c.begin_table.new.site) (g.W.Site.outside c.append.new.site) c.deref.result.now
     (begun.keeps.others tells) (begun.begun tells) (g.met.W.Site.reads site (table_log number)) (begun.keeps.said tells)
-    (makes_payload self.schema.catalog (statement.CreateTable c.args.create.now) (Table c.args.def) c.requires.makes) (c.deref.ensures.value ∙ c.in_ok-frame.ensures) (begun.during tells) (c.in_err-append.ensures.during tells))
+    (subst IsPayload (sym c.requires.makes.2) (makes_payload self.schema.catalog c.requires.makes.0 (Table c.args.def) c.requires.makes.1)) (c.deref.ensures.value ∙ c.in_ok-framed.ensures) (begun.during tells) (c.in_err-append.ensures.during tells))
 
 pub returns-in-Ok-clause-created : goal.returns-in-Ok-clause-created
 returns-in-Ok-clause-created g c = λ tells payloads books held.
@@ -93,7 +90,7 @@ returns-in-Ok-clause-created g c = λ tells payloads books held.
     let site = c.args.site.now in
     let def : TableDef = c.args.def in
     let table = c.in_ok-table.table in
-    let text = statement_text (statement.CreateTable c.args.create.now) in
+    let text = c.args.text.now in
     let old = g.W.Site.outside site in
     let mid = g.W.Site.outside c.begin_table.new.site in
     let last = g.W.Site.outside c.append.new.site in
@@ -102,8 +99,8 @@ returns-in-Ok-clause-created g c = λ tells payloads books held.
     let is : number ≡ length self.schema.catalog.tables + 1 = ap (λ (n : ℕ). n + 1) (c.tables-number.ensures.count ∙ ap (λ (catalog : Catalog). length catalog.tables) c.in_ok-reserve_one.ensures.catalog) in
     let begun = c.in_ok-table.ensures in
     let appended = c.in_ok-append.ensures in
-    let sized = makes_payload self.schema.catalog (statement.CreateTable c.args.create.now) (Table def) c.requires.makes in
-    let spelled = c.deref.ensures.value ∙ c.in_ok-frame.ensures in
+    let sized = subst IsPayload (sym c.requires.makes.2) (makes_payload self.schema.catalog c.requires.makes.0 (Table def) c.requires.makes.1) in
+    let spelled = c.deref.ensures.value ∙ c.in_ok-framed.ensures in
     let new : Store = record { catalog = c.append.new.self; schema = c.accept.new.self; tables = c.push.new.self } in
     let made = is_made self number def table c.reserve_one.new.self c.reserve.new.self new within is begun.fresh appended.file c.in_ok-reserve_one.ensures.catalog c.accept.ensures c.in_ok-reserve.ensures.items c.in-Ok.ensures.items in
     let ends = appended.appended tells payloads text (catalog_ready self old payloads books text def number within held is mid.files (begun.keeps.others tells)) sized spelled in
@@ -122,7 +119,7 @@ returns-in-Ok-clause-logged g c = λ tells payloads commits holds most.
     let site = c.args.site.now in
     let def : TableDef = c.args.def in
     let table = c.in_ok-table.table in
-    let text = statement_text (statement.CreateTable c.args.create.now) in
+    let text = c.args.text.now in
     let before = (g.W.Site.outside site).files in
     let between = (g.W.Site.outside c.begin_table.new.site).files in
     let behind = (g.W.Site.outside c.append.new.site).files in
@@ -139,7 +136,7 @@ returns-in-Ok-clause-logged g c = λ tells payloads commits holds most.
     let same = behind_same self number within before between behind (begun.keeps.others tells) (appended.keeps.others tells) in
     let empty = holds_commits_kept table between behind [] (same table.log.file (omega (arith, is, ap (λ (f : FileId). f.table) at_log))) none in
     let ready = subst (IsReady self.catalog.gate payloads) (sym (catalog_same self number within before between behind (begun.keeps.others tells) (appended.keeps.others tells) (omega (arith, is)))) holds.catalog in
-    let ends = appended.appended tells payloads text ready (makes_payload self.schema.catalog (statement.CreateTable c.args.create.now) (Table def) c.requires.makes) (c.deref.ensures.value ∙ c.in_ok-frame.ensures) in
+    let ends = appended.appended tells payloads text ready (subst IsPayload (sym c.requires.makes.2) (makes_payload self.schema.catalog c.requires.makes.0 (Table def) c.requires.makes.1)) (c.deref.ensures.value ∙ c.in_ok-framed.ensures) in
     made_logs self number def table new made before behind (tables_kept self number within before between behind (begun.keeps.others tells) (appended.keeps.others tells)) payloads (payloads ++ text ∷ []) commits holds
     (subst (λ (f : FileId). IsReady new.catalog.gate (payloads ++ text ∷ []) (behind f)) (sym made.file) ends) empty
 
@@ -160,9 +157,9 @@ returns-in-Ok-clause-usable g c =
     let made = is_made self number def table c.reserve_one.new.self c.reserve.new.self new within is begun.fresh appended.file c.in_ok-reserve_one.ensures.catalog c.accept.ensures c.in_ok-reserve.ensures.items c.in-Ok.ensures.items in
     record {
       within = made_within self number def table new made
-          (makes_defined self.schema.catalog (statement.CreateTable c.args.create.now) (Table def) c.requires.makes within.defined new.schema.catalog (ap (λ (s : Seen). s.catalog) c.accept.ensures ∙ ap (with_definition (Table def)) c.in_ok-reserve_one.ensures.catalog))
-          (omega (arith, makes_few self.schema.catalog (statement.CreateTable c.args.create.now) (Table def) c.requires.makes))
-          (omega (arith, appended.gate, ap length (c.deref.ensures.value ∙ c.in_ok-frame.ensures), makes_frame self.schema.catalog (statement.CreateTable c.args.create.now) (Table def) c.requires.makes));
+          (makes_defined self.schema.catalog c.requires.makes.0 (Table def) c.requires.makes.1 within.defined new.schema.catalog (ap (λ (s : Seen). s.catalog) c.accept.ensures ∙ ap (with_definition (Table def)) c.in_ok-reserve_one.ensures.catalog))
+          (omega (arith, makes_few self.schema.catalog c.requires.makes.0 (Table def) c.requires.makes.1))
+          (omega (arith, appended.gate, ap length (c.deref.ensures.value ∙ c.in_ok-framed.ensures), makes_frame self.schema.catalog c.requires.makes.0 (Table def) c.requires.makes.1, ap (λ (t : List ℕ). length (frame_of t)) c.requires.makes.2));
       placed = λ tells.
           let same = behind_same self number within before between behind (begun.keeps.others tells) (appended.keeps.others tells) in
           made_placed self number def table new made before behind (tables_kept self number within before between behind (begun.keeps.others tells) (appended.keeps.others tells)) (c.requires.usable.placed tells)
