@@ -1,5 +1,5 @@
 -- A store with one table more.
-use Rattle.std.proofs.Common.{◌≡◌, ◌≢◌, ℕ, ◌+◌, ◌<◌, ◌≤◌, List, [], ◌∷◌, ◌++◌, length, map, Bool, true, false, cond, refl, sym, ap, subst, ◌∙◌, arith, length-append, None}
+use Rattle.std.proofs.Common.{◌≡◌, ◌≢◌, ℕ, ◌+◌, ◌-◌, ◌<◌, ◌≤◌, List, [], ◌∷◌, ◌++◌, length, map, slice_get, Bool, true, false, cond, refl, sym, ap, subst, ◌∙◌, arith, length-append, None}
 use Rattle.std.specs.declared.alloc.Global.{Global}
 use Rattle.std.specs.declared.vec.Vec.{Vec}
 use Rattle.chv_catalog.specs.Schemas.{Catalog, Seen, definitions_in, with_definition}
@@ -11,6 +11,7 @@ use Rattle.chv_commit.specs.declared.commit.Commit.{Commit}
 use Rattle.chv_gate.specs.GateLog.{IsReady, begun, body, is_torn, open_frames}
 use Rattle.chv_gate.proofs.GateLogLemmas.{length-body}
 use Rattle.chv_part.specs.Books.{Book, no_book}
+use Rattle.chv_query.proofs.GrowthLemmas.{slice_get-more}
 use Rattle.chv_site.specs.declared.file_id.FileId.{FileId}
 use Rattle.chv_site.specs.FileIds.{table_log}
 use Rattle.chv_site.specs.Files.{FileState, KeepsOthers, settled}
@@ -21,7 +22,7 @@ use Rattle.chv_table.specs.declared.table.Table.{Table}
 use Rattle.chv_table.proofs.TableLemmas.{holds_commits_kept}
 use Rattle.chv_query.specs.Accepted.{IsCatalog}
 use Rattle.chv_store.specs.Holding.{HoldsBooks, HoldsLogs, with_book, with_one}
-use Rattle.chv_store.specs.Stores.{EachTable, IsHeldAs, IsPlaced, IsWithin, MAX_STEP}
+use Rattle.chv_store.specs.Stores.{EachTable, HasRoom, IsHeldAs, IsPlaced, IsWithin, MAX_STEP}
 use Rattle.chv_store.specs.declared.store.Store.{Store}
 use Rattle.chv_store.proofs.EachTableLemmas.{each-all, each-both, each-more, each-weaker, each-with-all}
 use Rattle.chv_store.proofs.PlaceLemmas.{with_one-other, with_one-same}
@@ -109,6 +110,15 @@ module _ (store : Store) (number : ℕ) (def : TableDef) (table : Table) (new : 
 
   one_more : length new.schema.catalog.tables ≡ number
   one_more = omega (arith, ap length made.schema, length-append store.schema.catalog.tables (def ∷ []), made.number_is)
+
+  -- each table keeps its room
+  pub made_rooms : (at count : ℕ) → HasRoom count store at → HasRoom count new at
+  made_rooms at count room = record {
+    is_table = record { first = room.is_table.first; last = omega (arith, room.is_table.last, one_more, made.number_is) };
+    held = room.held;
+    stands = ap (λ (ts : List Table). slice_get ts (at - 1)) made.tables ∙ slice_get-more store.tables.items (table ∷ []) (at - 1) room.held room.stands;
+    room = room.room;
+  }
 
   pub made_within : IsCatalog new.schema.catalog → definitions_in store.schema.catalog < 256 → new.catalog.gate ≤ store.catalog.gate + MAX_STEP → IsWithin new
   made_within defined room gate = record {

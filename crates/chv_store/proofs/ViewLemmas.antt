@@ -24,7 +24,7 @@ use Rattle.chv_table.proofs.TableLemmas.{holds_commits_kept}
 use Rattle.chv_query.specs.Accepted.{IsCatalog}
 use Rattle.chv_store.specs.Calls.{EitherLeft, StandsFor}
 use Rattle.chv_store.specs.Holding.{HoldsBooks, HoldsLogs}
-use Rattle.chv_store.specs.Stores.{EachTable, IsHeldAs, IsPlaced, IsWithin, MAX_STEP, forms_of}
+use Rattle.chv_store.specs.Stores.{EachTable, HasRoom, IsHeldAs, IsPlaced, IsWithin, MAX_STEP, forms_of}
 use Rattle.chv_store.specs.declared.store.Store.{Store}
 use Rattle.chv_store.proofs.EachTableLemmas.{each-all, each-both, each-weaker, each-with-all}
 use Rattle.chv_store.proofs.StoreLemmas.{IsHeldWith, book_kept, catalog_apart, each-held, image_stands, log_number, placed_kept, short_left, table_stands}
@@ -42,6 +42,15 @@ module _ (store : Store) (log : Log) (schema : Seen) (def : ViewDef) (within : I
 
   one_more : definitions_in schema.catalog ≡ definitions_in store.schema.catalog + 1
   one_more = omega (arith, ap definitions_in catalog, length-append store.schema.catalog.views (def ∷ []))
+
+  -- each table keeps its room
+  pub viewed_rooms : (at count : ℕ) → HasRoom count store at → HasRoom count Viewed at
+  viewed_rooms at count room = record {
+    is_table = record { first = room.is_table.first; last = omega (arith, room.is_table.last, ap length defs) };
+    held = room.held;
+    stands = room.stands;
+    room = room.room;
+  }
 
   pub viewed_within : IsCatalog schema.catalog → definitions_in store.schema.catalog < 256 → log.gate ≤ store.catalog.gate + MAX_STEP → IsWithin Viewed
   viewed_within defined room gate = record {

@@ -11,7 +11,7 @@ ghost use Rattle.chv_site.specs.FileIds.{catalog_log, table_log};
 ghost use Rattle.chv_store.specs.Calls.{ChangesLogs, StandsFor, Turns};
 ghost use Rattle.chv_store.specs.Holding.{HoldsBooks, HoldsLogs, with_book, with_one};
 ghost use Rattle.chv_store.specs.Openings.{TextMakes};
-ghost use Rattle.chv_store.specs.Stores.{IsUsable, forms_of, states_of};
+ghost use Rattle.chv_store.specs.Stores.{HasRoom, IsUsable, forms_of, states_of};
 
 use crate::Store;
 use chv_catalog::{Definition, TableDef, ViewDef};
@@ -42,6 +42,8 @@ impl Store {
             → ((W.outside site.old).files (table_log (length self.old.schema.catalog.tables + 1))).most ≤ 1
             → OnOk result (HoldsLogs self.new (W.outside site.new).files (payloads ++ text.now ∷ []) (with_one (length self.old.schema.catalog.tables + 1) [] commits)) }
         ensures held { OnOk result ((self.new.schema.catalog ≡ with_definition (definition.Table def) self.old.schema.catalog) × (states_of self.new ≡ states_of self.old ++ no_state ∷ [])) }
+        // Room that a table has stays.
+        ensures rooms { OnOk result ((table count : ℕ) → HasRoom count self.old table → HasRoom count self.new table) }
         ensures usable { OnOk result (IsUsable W.tells self.new (W.outside site.new)) }
         ensures keeps { ChangesLogs W.tells (IsErrOf result PutFault.Failed) (length self.old.schema.catalog.tables + 1) (W.outside site.old) (W.outside site.new) }
     {
@@ -79,6 +81,8 @@ impl Store {
         ensures logged { W.tells → (payloads : List (List ℕ)) (commits : ℕ → List Commit) → HoldsLogs self.old (W.outside site.old).files payloads commits
             → OnOk result (HoldsLogs self.new (W.outside site.new).files (payloads ++ text.now ∷ []) commits) }
         ensures held { OnOk result ((self.new.schema.catalog ≡ with_definition (definition.View def) self.old.schema.catalog) × (states_of self.new ≡ states_of self.old)) }
+        // Room that a table has stays.
+        ensures rooms { OnOk result ((table count : ℕ) → HasRoom count self.old table → HasRoom count self.new table) }
         ensures usable { OnOk result (IsUsable W.tells self.new (W.outside site.new)) }
         ensures keeps { ChangesOnly W.tells (IsErrOf result PutFault.Failed) catalog_log (W.outside site.old) (W.outside site.new) }
     {

@@ -9,12 +9,12 @@ pub returns-then-not-is_built_table-clause-none : goal.returns-then-not-is_built
 returns-then-not-is_built_table-clause-none c =
     unbuilt_read c.args.schema.now.catalog c.args.text.now (statement.CreateTable c.args.made.now) c.requires.read (sym c.is_built_table.ensures ∙ c.if-not-is_built_table.true)
 
-pub returns-in-Ok-then-ne-clause-none : goal.returns-in-Ok-then-ne-clause-none
-returns-in-Ok-then-ne-clause-none c =
+pub returns-then-ne-clause-none : goal.returns-then-ne-clause-none
+returns-then-ne-clause-none c =
     other_text c.args.schema.now.catalog c.args.text.now (statement.CreateTable c.args.made.now) c.requires.read (λ same. differs c.as_slice.result.now c.args.text.now c.ne.result c.ne.ensures c.if-ne.true (c.as_slice.ensures.value ∙ c.in-Ok.ensures.text ∙ same))
 
-pub returns-in-Ok-clause-some : goal.returns-in-Ok-clause-some
-returns-in-Ok-clause-some c =
+pub returns-else-ne-clause-some : goal.returns-else-ne-clause-some
+returns-else-ne-clause-some c =
     accepted_read c.args.schema.now.catalog c.args.text.now (statement.CreateTable c.args.made.now) (Table c.in-Ok.table.def) c.requires.read (sym c.is_built_table.ensures ∙ c.if-not-is_built_table.false) (sym (c.as_slice.ensures.value ∙ c.in-Ok.ensures.text) ∙ is_same c.as_slice.result.now c.args.text.now c.ne.result c.ne.ensures c.if-ne.false) c.in-Ok.ensures.defined
 
 pub returns-in-Err-Refused-clause-none : goal.returns-in-Err-Refused-clause-none

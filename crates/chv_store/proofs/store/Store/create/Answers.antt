@@ -13,7 +13,7 @@ use Rattle.chv_table.proofs.TableLemmas.{holds_commits_kept}
 use Rattle.chv_types.specs.Names.{place_of}
 use Rattle.chv_store.specs.declared.store.Store.{Store}
 use Rattle.chv_store.proofs.CreateLemmas.{catalog_ready, log_during, log_most, made_during, none_during, turns_err}
-use Rattle.chv_store.proofs.MadeLemmas.{behind_same, catalog_same, is_made, made_books, made_logs, made_placed, made_within, new_commits, tables_kept}
+use Rattle.chv_store.proofs.MadeLemmas.{behind_same, catalog_same, is_made, made_books, made_logs, made_placed, made_rooms, made_within, new_commits, tables_kept}
 use Rattle.chv_store.proofs.MakesLemmas.{makes_columns, makes_defined, makes_few, makes_frame, makes_free, makes_payload}
 use Rattle.chv_store.proofs.StoreLemmas.{book_kept, placed_kept}
 use Rattle.chv_store.proofs.store.Store.create.Goals as goal
@@ -166,3 +166,13 @@ returns-in-Ok-clause-usable g c =
           (subst (λ (f : FileId). new.catalog.gate < length (behind f).bytes) (sym made.file) (appended.placed tells))
           (placed_kept between behind number def table (λ f its. same f (omega (arith, its))) made.held_as (begun.placed tells));
     }
+
+pub returns-in-Ok-clause-rooms : goal.returns-in-Ok-clause-rooms
+returns-in-Ok-clause-rooms g c =
+    let self = c.args.self.now in
+    let number = c.tables-number.result + 1 in
+    let is : number ≡ length self.schema.catalog.tables + 1 = ap (λ (n : ℕ). n + 1) (c.tables-number.ensures.count ∙ ap (λ (catalog : Catalog). length catalog.tables) c.in_ok-reserve_one.ensures.catalog) in
+    let new : Store = record { catalog = c.append.new.self; schema = c.accept.new.self; tables = c.push.new.self } in
+    made_rooms self number c.args.def c.in_ok-table.table new
+    (is_made self number c.args.def c.in_ok-table.table c.reserve_one.new.self c.reserve.new.self new c.requires.usable.within is c.in_ok-table.ensures.fresh c.in_ok-append.ensures.file c.in_ok-reserve_one.ensures.catalog c.accept.ensures
+    c.in_ok-reserve.ensures.items c.in-Ok.ensures.items)

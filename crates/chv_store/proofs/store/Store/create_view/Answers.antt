@@ -8,7 +8,7 @@ use Rattle.chv_site.specs.declared.file_id.FileId.{FileId}
 use Rattle.chv_types.specs.Names.{place_of}
 use Rattle.chv_store.proofs.CreateLemmas.{turns_err}
 use Rattle.chv_store.proofs.MakesLemmas.{makes_defined, makes_few, makes_frame, makes_free, makes_payload}
-use Rattle.chv_store.proofs.ViewLemmas.{unviewed_during, viewed_books, viewed_during, viewed_logs, viewed_placed, viewed_within}
+use Rattle.chv_store.proofs.ViewLemmas.{unviewed_during, viewed_books, viewed_during, viewed_logs, viewed_placed, viewed_rooms, viewed_within}
 use Rattle.chv_store.proofs.store.Store.create_view.Goals as goal
 
 pub frame-requires : goal.frame-requires
@@ -109,3 +109,8 @@ returns-clause-usable g c =
           viewed_placed self log new def usable.within appended.file catalog before behind (appended.keeps.others tells) (usable.placed tells)
           (subst (λ (f : FileId). log.gate < length (behind f).bytes) (sym appended.file) (appended.placed tells));
     }
+
+pub returns-clause-rooms : goal.returns-clause-rooms
+returns-clause-rooms g c =
+    let catalog = ap (λ (s : Seen). s.catalog) c.accept.ensures ∙ ap (with_definition (View c.args.def)) c.in_ok-reserve_one.ensures.catalog in
+    viewed_rooms c.args.self.now c.append.new.self c.accept.new.self c.args.def c.requires.usable.within c.in_ok-append.ensures.file catalog
