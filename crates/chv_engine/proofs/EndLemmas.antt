@@ -6,7 +6,7 @@ use Rattle.std.proofs.lemmas.Result.{IfOk-weaker}
 use Rattle.chv_catalog.specs.declared.table_def.TableDef.{TableDef}
 use Rattle.chv_query.specs.Accepted.{catalog_of, catalog_payload, tables_of}
 use Rattle.chv_history.specs.Crashes.{IsLeftBy}
-use Rattle.chv_history.specs.Events.{Moment, begins, behind}
+use Rattle.chv_history.specs.Events.{begins, behind}
 use Rattle.chv_history.specs.Histories.{History, Settles, book_of}
 use Rattle.chv_history.specs.Kept.{Kept, Refuses}
 use Rattle.chv_history.specs.Runs.{run_events}
@@ -31,18 +31,18 @@ use Rattle.chv_store.specs.declared.fault.OpenFault.{OpenFault}
 use Rattle.chv_store.specs.declared.store.Store.{Store}
 use Rattle.chv_table.specs.declared.fault.TableFault.{TableFault}
 use Rattle.chv_table.specs.declared.fault.TableFault.TheVariants as table
-use Rattle.chv_engine.specs.Answers.{AnswersAs, FirstAsks, IsAt, IsLogged, RunsAll, TellsHeld}
+use Rattle.chv_flight.specs.Answers.{AnswersAs, FirstAsks, IsAt, IsLogged}
+use Rattle.chv_flight.specs.Faults.{CountsFault, table_fault_of}
+use Rattle.chv_flight.specs.declared.fault.RunFault.{RunFault}
+use Rattle.chv_flight.specs.declared.fault.RunFault.TheVariants.{Disk, Say, Damaged, NoMemory}
+use Rattle.chv_flight.proofs.AnswerLemmas.{moment_left}
+use Rattle.chv_flight.proofs.ResultLemmas.{if_ok_with}
+use Rattle.chv_flight.proofs.RunLemmas.{counts_then}
 use Rattle.chv_engine.specs.Damage.{FirstMeets, HasKept, HasNoStrays, IsOpeningDamaged, line_of}
 use Rattle.chv_engine.specs.Ends.{EndsAt, SaysDamage}
-use Rattle.chv_engine.specs.Faults.{CountsFault, table_fault_of}
-use Rattle.chv_engine.specs.Telling.{TellsFault, TellsOrFails}
-use Rattle.chv_engine.specs.declared.fault.RunFault.{RunFault}
-use Rattle.chv_engine.specs.declared.fault.RunFault.TheVariants.{Disk, Say, Damaged, NoMemory}
-use Rattle.chv_engine.proofs.AnswerLemmas.{moment_left}
+use Rattle.chv_engine.specs.Telling.{RunsAll, TellsFault, TellsHeld, TellsOrFails}
 use Rattle.chv_engine.proofs.OpenedLemmas.{logged_live, opened_kept, opened_meets, opened_undamaged}
 use Rattle.chv_engine.proofs.OpeningLemmas.{IsOpening, kept_undamaged, opening_unique, standing_undamaged}
-use Rattle.chv_engine.proofs.ResultLemmas.{if_ok_with}
-use Rattle.chv_engine.proofs.RunLemmas.{counts_then}
 
 module _ (requests : List Request) (history : History) where
   abbrev Left : Outside → Image → List ℕ → Type 0
@@ -221,14 +221,14 @@ module _ (tells : Type 0) (requests : List Request) (result : Result Bool RunFau
 
     pub run_ends : ((f : FileId) → HasLengths (new.files f)) → IfOk result (EndsAt requests history old new)
     run_ends lengths =
-        if_ok_with result (IsWithin is) (λ refused. (before : List ℕ) (m : Moment) → IsAt store mid before m → AnswersAs is new before refused (run_events requests m) m) (EndsAt requests history old new)
-        (λ refused within answers. ends_at requests history is old new refused within lengths (answers old.said (begins history) start)) runs.within (runs.answered t)
+        if_ok_with result (IsWithin is) (λ refused. (before : List ℕ) (first : History) → IsAt store mid before (begins first) → AnswersAs is new before refused (run_events requests (begins first)) (begins first)) (EndsAt requests history old new)
+        (λ refused within answers. ends_at requests history is old new refused within lengths (answers old.said history start)) runs.within (runs.answered t)
 
     pub run_during : During old mid (StandsLeft (map catalog_payload history.schema) (map form_of (tables_of history.schema)) (book_of history) old.said)
         → During old new (IsLeftBy (run_events requests (begins history)) old.said (begins history))
     run_during during =
         let P = IsLeftBy (run_events requests (begins history)) old.said (begins history) in
-        goes_on old mid new P P (opening_during requests history old mid settles during) (runs.during t old.said (begins history) start) (λ image text left. left)
+        goes_on old mid new P P (opening_during requests history old mid settles during) (runs.during t old.said history start) (λ image text left. left)
 
     pub run_undamaged : (damage : Damage) → IsErrOf result (Damaged damage) → ⊥
-    run_undamaged damage ended = runs.undamaged t old.said (begins history) damage start ended
+    run_undamaged damage ended = runs.undamaged t old.said history damage start ended

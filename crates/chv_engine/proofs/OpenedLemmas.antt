@@ -38,10 +38,10 @@ use Rattle.chv_store.proofs.PlaceLemmas.{with_one-same, with_one-other}
 use Rattle.chv_table.specs.Damage.{IsDamageOfPart, IsPartDamage}
 use Rattle.chv_table.specs.Tables.{HoldsCommits, held_form, held_state}
 use Rattle.chv_table.specs.declared.table.Table.{Table}
-use Rattle.chv_engine.specs.Answers.{FirstAsks, HoldsKept, IsLogged, request_wish}
+use Rattle.chv_flight.specs.Answers.{FirstAsks, HoldsKept, IsLogged, request_wish}
+use Rattle.chv_flight.proofs.RunLemmas.{rows_asked}
 use Rattle.chv_engine.specs.Damage.{AreLive, FirstMeets, HasKept, HasNoStrays, line_of}
 use Rattle.chv_engine.proofs.OpeningLemmas.{IsOpening, all_undamaged, schemas_same}
-use Rattle.chv_engine.proofs.RunLemmas.{rows_asked}
 
 -- what is held of a table whose log has commits is what they say
 table_commits : (files : Image) (number : ℕ) (def : TableDef) (table : Table) (commits : List Commit) → IsHeldAs number def table → All IsCommit commits

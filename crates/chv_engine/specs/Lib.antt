@@ -1,11 +1,6 @@
-pub mod Answers
 pub mod Damage
 pub mod DamageLines
-pub mod Deliveries
 pub mod Ends
-pub mod Faults
-pub mod Parts
 pub mod Pulls
-pub mod Rooms
 pub mod Telling
 pub mod Words

@@ -1,19 +1,10 @@
 //! The run: from words, a script and a site to statements that are answered and files that stand for their history.
 #![tactic(auto)]
 
-mod answer;
-mod built;
-mod create;
 mod damage;
-mod fault;
-mod insert;
-mod order;
-mod parts;
 mod pull;
-mod room;
 mod run;
 mod say;
-mod select;
 mod status;
 mod top;
 mod words;

@@ -1,60 +1,45 @@
-// What is said to clients.
-ghost use Rattle.std.specs.Prelude.{◌≡◌, true};
-ghost use Rattle.chv_text.specs.Replies.{refused_line};
-ghost use Rattle.chv_engine.specs.Answers.{Replies};
+// How damage is told.
+ghost use Rattle.std.specs.Prelude.{◌≡◌, List};
+ghost use Rattle.chv_catalog.specs.declared.table_def.TableDef.{TableDef};
 ghost use Rattle.chv_engine.specs.Damage.{line_of, name_of, name_at};
 ghost use Rattle.chv_engine.specs.Telling.{TellsFault};
 
 use crate::damage::damage_line;
-use crate::fault::RunFault;
-use chv_ast::Refusal;
 use chv_catalog::Schema;
+use chv_flight::{RunFault, reply};
 use chv_part::Damage;
 use chv_site::Site;
-use chv_text::line_refused;
 use std::alloc::Global;
-
-/// Says a reply; `refuses` tells whether it refuses its statement, and is answered.
-pub fn reply<W: Site>(site: &mut W, text: &[u8], refuses: bool) -> Result<bool, RunFault>
-    ensures { Replies W.tells text.now refuses result (W.outside site.old) (W.outside site.new) }
-{
-    match site.say(text) {
-        Ok(()) => Ok(refuses),
-        Err(_) => Err(RunFault::Say),
-    }
-}
-
-/// Says a refusal to a client, and answers true.
-pub fn refuse<W: Site>(site: &mut W, client: u8, refusal: Refusal) -> Result<bool, RunFault>
-    ensures { Replies W.tells (refused_line client refusal) true result (W.outside site.old) (W.outside site.new) }
-{
-    reply(site, line_refused(client, refusal).as_slice(), true)
-}
 
 /// Where a fault is damage, says the line that tells it beside these tables. It answers the fault that ends the run.
 pub fn tell<W: Site>(alloc: Global, site: &mut W, schema: &Schema, fault: RunFault) -> RunFault
     ensures { TellsFault W.tells (site.new ≡ site.old) schema.now.catalog.tables fault result (W.outside site.old) (W.outside site.new) }
 {
     match fault {
-        RunFault::Damaged(damage) => match say_damage(alloc, site, schema, damage) {
-            Ok(_) => fault,
-            Err(other) => other,
-        },
+        RunFault::Damaged(damage) => say_damage(alloc, site, schema, damage),
         _ => fault,
     }
 }
 
-// Says the line that tells a damage beside these tables.
-fn say_damage<W: Site>(
-    alloc: Global,
-    site: &mut W,
-    schema: &Schema,
-    damage: Damage,
-) -> Result<bool, RunFault>
-    ensures { Replies W.tells (line_of schema.now.catalog.tables damage) true result (W.outside site.old) (W.outside site.new) }
+// Says the line that tells a damage beside these tables. It answers the fault that ends the run.
+fn say_damage<W: Site>(alloc: Global, site: &mut W, schema: &Schema, damage: Damage) -> RunFault
+    ensures { TellsFault W.tells (site.new ≡ site.old) schema.now.catalog.tables (RunFault.Damaged damage) result (W.outside site.old) (W.outside site.new) }
 {
-    let line = damage_line(alloc, damage, name_of(schema, damage))?;
-    reply(site, &line, true)
+    match damage_line(alloc, damage, name_of(schema, damage)) {
+        Ok(line) => say_line(site, &line, damage),
+        Err(_) => RunFault::NoMemory,
+    }
+}
+
+// Says a line that tells a damage. It answers the fault that ends the run.
+fn say_line<W: Site>(site: &mut W, line: &[u8], damage: Damage) -> RunFault
+    ensures { (tables : List TableDef) → line.now ≡ line_of tables damage
+        → TellsFault W.tells (site.new ≡ site.old) tables (RunFault.Damaged damage) result (W.outside site.old) (W.outside site.new) }
+{
+    match reply(site, line, true) {
+        Ok(_) => RunFault::Damaged(damage),
+        Err(fault) => fault,
+    }
 }
 
 // The name that goes with a damage: that of its table.

@@ -11,11 +11,12 @@ ghost use Rattle.chv_engine.specs.Ends.{IfEnded, EndsWithoutFault, IsCausedBy, M
 ghost use Rattle.chv_engine.specs.Pulls.{MAX_SCRIPT};
 ghost use Rattle.chv_engine.specs.Words.{run_words};
 
-use crate::fault::RunFault;
 use crate::pull::{PullFault, pull_script};
 use crate::run::run_script;
 use crate::{Command, Status, Words, read_words};
+use chv_flight::RunFault;
 use chv_site::{Site, Source};
+use chv_types::Bytes;
 use std::alloc::Global;
 
 /// Does what the words ask. `run` pulls the source to its end, and answers its statements on the store that the site holds.
@@ -81,7 +82,7 @@ fn run<S: Source, W: Site>(alloc: Global, source: &mut S, site: &mut W) -> Statu
         → AnswersDamage result (W.outside site.old).said (W.outside site.new).said line }
 {
     match pull_script(alloc, source) {
-        Ok(script) => match run_script(alloc, site, &script) {
+        Ok(script) => match run_script(alloc, site, Bytes::from_vec(script)) {
             Ok(false) => Status::Done,
             Ok(true) => Status::SomeRefused,
             Err(RunFault::Disk) => Status::DiskFault,

@@ -41,15 +41,15 @@ leads_acts m control events after acts later rest =
     (rest_next m control later (subst₂ (λ (es : List Event) (c : Control). IsRest [] (behind es m) c later) (sym acts.events_are) (sym acts.control_is) rest))
 
 -- a client has no delivery left
-abbrev Rests : Client → Type 0
+abbrev pub Rests : Client → Type 0
 Rests work = work.left ≡ []
 
-rests_all : (clients : List Client) → All Rests clients → deliveries_left (record { clients = clients }) ≡ []
+pub rests_all : (clients : List Client) → All Rests clients → deliveries_left (record { clients = clients }) ≡ []
 rests_all [] rest = refl
 rests_all (work ∷ clients) rest = ap₂ (λ (xs ys : Plan). xs ++ ys) (All-head Rests work clients rest) (rests_all clients (All-tail Rests work clients rest))
 
 -- with none left, room is counted by entries alone
-planned_none : (entries : ℕ → ℕ) (control : Control) → deliveries_left control ≡ [] → with_planned entries control ≡ entries
+pub planned_none : (entries : ℕ → ℕ) (control : Control) → deliveries_left control ≡ [] → with_planned entries control ≡ entries
 planned_none entries control none =
     let beside : Plan → ℕ → ℕ = λ left table. entries table + deliveries_to table left in
     ap beside none ∙ (λ i table. add-zero (entries table) i)
@@ -60,14 +60,14 @@ slice_get-at (first ∷ before) rest work = slice_get-at before rest work
 
 -- clients in front of one have nothing to do
 module _ (before rest : List Client) (idle : position has_work before ≡ None) where
-  abbrev number : ℕ
+  abbrev pub number : ℕ
   number = length before
 
-  abbrev with_work : Client → Control
+  abbrev pub with_work : Client → Control
   with_work work = record { clients = before ++ work ∷ rest }
 
   -- so its turn is the next, where it has work
-  next_is : (work : Client) → has_work work ≡ true → client_of Next (with_work work) ≡ Some (number, work)
+  pub next_is : (work : Client) → has_work work ≡ true → client_of Next (with_work work) ≡ Some (number, work)
   next_is work some =
       let clients = before ++ work ∷ rest in
       let within : number < length clients = omega (arith, length-append before (work ∷ rest)) in
@@ -78,7 +78,7 @@ module _ (before rest : List Client) (idle : position has_work before ≡ None) 
       client_of-Next number (with_work work) first ∙ client_of-there number (with_work work) work (slice_get-at before rest work)
 
   -- and behind it, it has this to do
-  put_is : (old new : Client) → (record { clients = slice_set (before ++ old ∷ rest) number new }) ≡ with_work new
+  pub put_is : (old new : Client) → (record { clients = slice_set (before ++ old ∷ rest) number new }) ≡ with_work new
   put_is old new = ap (λ (clients : List Client). record { clients = clients }) (set_at before old rest new number refl)
 
   -- its deliveries are made one after the other, and the insert is acknowledged, with so many blocks written
@@ -155,10 +155,10 @@ module _ (before rest : List Client) (idle : position has_work before ≡ None) 
         record { after = by.0; rests = by.1; asks_are = by.2; leads = by.3 }
 
 -- what clients ask for, client by client, from this number on
-abbrev asked_by : ℕ → List (Option Statement) → List Request
+abbrev pub asked_by : ℕ → List (Option Statement) → List Request
 asked_by client asks = map (λ (asked : Option Statement). record { client = client; statement = asked }) asks
 
-abbrev asked_from : ℕ → List Client → List Request
+abbrev pub asked_from : ℕ → List Client → List Request
 asked_from first [] = []
 asked_from first (work ∷ clients) = asked_by first work.asks ++ asked_from (first + 1) clients
 
@@ -180,7 +180,7 @@ module _ (rest : List Client) (resting : All Rests rest) (go_on : (before : List
       let is = answered before rest idle m work asked asks rested resting none are (All-head IsAskFormed asked asks formed) in
       is.leads _ (in_order_one asks is.after before (behind (request_events (record { client = length before; statement = asked }) m.history) m) idle rested is.rests is.asks_are (All-tail IsAskFormed asked asks formed))
 
-abbrev AsksFormed : Client → Type 0
+abbrev pub AsksFormed : Client → Type 0
 AsksFormed work = All IsAskFormed work.asks
 
 in_order_from : (rest before : List Client) (m : Moment) → All Rests rest → All AsksFormed rest → position has_work before ≡ None → All Rests before → InOrder before rest m
@@ -204,7 +204,7 @@ one_client script client (piece ∷ pieces) =
       | false ↦ λ other. one_client script client pieces
     ] refl
 
-in_clients : (script : List ℕ) (first count : ℕ)
+pub in_clients : (script : List ℕ) (first count : ℕ)
     → asked_from first (map (λ (client : ℕ). asking (asks_in script client)) (range_with_len first count)) ≡ requests_in script (flat_map (of_client (pieces_of script)) (range_with_len first count))
 in_clients script first zero = refl
 in_clients script first (suc count) =

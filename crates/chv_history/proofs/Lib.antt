@@ -13,6 +13,7 @@ pub mod LifeLemmas
 pub mod LookupLemmas
 pub mod MadeLemmas
 pub mod PlannedLemmas
+pub mod RefusalLemmas
 pub mod RequestLemmas
 pub mod RoomLemmas
 pub mod RunLemmas

@@ -1,0 +1,9 @@
+pub mod Answers
+pub mod ClientTurns
+pub mod Deliveries
+pub mod Faults
+pub mod Flights
+pub mod Parts
+pub mod Rooms
+pub mod Takes
+pub mod Turns
