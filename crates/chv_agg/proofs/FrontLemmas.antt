@@ -28,7 +28,7 @@ use Rattle.chv_agg.specs.Plain.{integers_of, scalar_spelling, truth_spelling, va
 use Rattle.chv_agg.specs.StateBytes.{are_bytes, front_of, scalar_in, text_in, truth_in, values_in, whole_in, word_of}
 
 -- what both tests pass
-and_true : (a b : Bool) → a ≡ true → b ≡ true → (a && b) ≡ true
+pub and_true : (a b : Bool) → a ≡ true → b ≡ true → (a && b) ≡ true
 and_true true true h k = refl
 and_true true false h k = k
 and_true false b h k = h

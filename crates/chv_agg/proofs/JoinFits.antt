@@ -1,8 +1,8 @@
 -- States that are joined fit, where a set is not too large to have bytes.
-use Rattle.std.proofs.Common.{◌≡◌, ℕ, ℤ, pos, suc, ◌+◌, ◌+ℤ◌, ◌-◌, ◌^◌, ◌<◌, ◌≤◌, ◌≤ℤ◌, neg_ℤ, List, [], ◌∷◌, ◌++◌, length, Bool, true, false, if◌then◌else◌, Option, Some, None, Less, Equal, Greater, refl, ap, ◌∙◌, arith, append-nil, length-append}
+use Rattle.std.proofs.Common.{ℕ, ℤ, pos, suc, ◌+◌, ◌+ℤ◌, ◌-◌, ◌^◌, ◌<◌, ◌≤◌, ◌≤ℤ◌, neg_ℤ, List, [], ◌∷◌, ◌++◌, length, Option, Some, None, Less, Equal, Greater, arith, length-append}
 use Rattle.std.proofs.lemmas.Int.{ints, SFits-int_wrap}
 use Rattle.std.proofs.lemmas.List.Elements.{All-nil, All-cons, All-head, All-tail, All-append}
-use Rattle.std.specs.Int.{to_le_bytes, w64}
+use Rattle.std.specs.Int.{w64}
 use Rattle.std.specs.List.{All}
 use Rattle.std.specs.declared.cmp.Ordering.{Ordering}
 use Rattle.chv_types.proofs.MemberLemmas.{members-Rises}
@@ -14,13 +14,11 @@ use Rattle.chv_types.specs.declared.aggregate.AggName.{AggName}
 use Rattle.chv_types.specs.declared.aggregate.AggName.TheVariants as agg
 use Rattle.chv_types.specs.declared.kind.Scalar.{Scalar}
 use Rattle.chv_types.specs.declared.value.Value.{Value}
-use Rattle.chv_agg.specs.Plain.{values_spelling}
-use Rattle.chv_agg.specs.StateBytes.{state_bytes, state_front, state_in, whole_state}
-use Rattle.chv_agg.specs.States.{either_by, FitsFound, FitsState, higher, is_signed, join, lower, signed_of, unit_of}
+use Rattle.chv_agg.specs.StateBytes.{state_in}
+use Rattle.chv_agg.specs.States.{either_by, FitsFound, FitsState, higher, join, lower, set_size, signed_of}
 use Rattle.chv_agg.specs.declared.any_agg.AnyAgg.{AnyAgg}
 use Rattle.chv_agg.specs.declared.any_agg.AnyAgg.TheVariants.{Count, SumU, SumI, Least, Greatest, Uniq}
-use Rattle.chv_agg.proofs.ReadingLemmas.{some_bytes_each}
-use Rattle.chv_agg.proofs.StateFrontLemmas.{state_front-sound, state_in-fits}
+use Rattle.chv_agg.proofs.StateFrontLemmas.{set_size-state_in, state_in-fits}
 
 -- what one of two items has, that has which is taken
 by_order-has : {A : Type 0} (P : A → Type 0) (o : Ordering) (less equal greater : A) → P less → P equal → P greater → P (by_order o less equal greater)
@@ -51,11 +49,6 @@ pub members-length : (xs : List Value) → length (members value_cmp xs) ≤ len
 members-length [] = omega arith
 members-length (x ∷ xs) = omega (arith, put_member-length x (members value_cmp xs), members-length xs)
 
--- how many values the set of a state has
-abbrev pub set_size : AnyAgg → ℕ
-set_size (Uniq values) = length values
-set_size other = 0
-
 -- a value that is one of two is of their kind
 either_by-fits : (choose : Value → Value → Value) (arg : Scalar) → ((a b : Value) → IsOfScalar arg a → IsOfScalar arg b → IsOfScalar arg (choose a b))
     → (a b : Option Value) → FitsFound arg a → FitsFound arg b → FitsFound arg (either_by choose a b)
@@ -75,15 +68,6 @@ signed_of-least z = omega (arith, ints, SFits-int_wrap w64 z)
 
 signed_of-greatest : (z : ℤ) → signed_of z ≤ℤ pos (2 ^ 63 - 1)
 signed_of-greatest z = omega (arith, ints, SFits-int_wrap w64 z)
-
--- the state of no values has no set of them
-set_size-sum : (signed : Bool) → set_size (if signed then SumI (pos 0) else SumU 0) ≡ 0
-set_size-sum false = refl
-set_size-sum true = refl
-
-pub set_size-unit : (agg : AggName) (arg : Scalar) → set_size (unit_of agg arg) ≡ 0
-set_size-unit agg.Sum arg = set_size-sum (is_signed arg)
-set_size-unit agg arg = refl
 
 -- the joint state of two fits where its set is not too large
 pub join-fits : (agg : AggName) (arg : Scalar) (a b : AnyAgg) → FitsState agg arg a → FitsState agg arg b → set_size (join a b) < 2 ^ 64 → FitsState agg arg (join a b)
@@ -108,27 +92,6 @@ join-fits agg.UniqExact arg (Uniq a) (Uniq b) h k small = (
 join-fits agg.UniqExact arg (Uniq a) b h k small = absurd k
 join-fits agg arg a b h k small = absurd h
 
--- a set in bytes has no more values than there are bytes
-pub size_bytes : (arg : Scalar) (state : AnyAgg) (agg : AggName) → FitsState agg arg state → set_size state ≤ length (state_bytes arg state)
-unfolding state_bytes
-size_bytes arg (Uniq values) agg.UniqExact h =
-    omega (arith, some_bytes_each arg values h.0, length-append (to_le_bytes w64 (length values)) (values_spelling arg values))
-size_bytes arg (Uniq values) agg h = absurd h
-size_bytes arg state agg h = omega arith
-
--- bytes stand for a set of no more values than there are bytes
-set_size-whole : (agg : AggName) (arg : Scalar) (bytes : List ℕ) (front : Option (AnyAgg × List ℕ)) → state_front agg arg bytes ≡ front
-    → set_size (whole_state (unit_of agg arg) front) ≤ length bytes
-set_size-whole agg arg bytes None is = omega (arith, set_size-unit agg arg)
-set_size-whole agg arg bytes (Some (state, [])) is =
-    let e = state_front-sound agg arg bytes state [] is in
-    let long : length bytes ≡ length (state_bytes arg state) = ap length (e.1 ∙ append-nil (state_bytes arg state)) in
-    omega (arith, long, size_bytes arg state agg e.0)
-set_size-whole agg arg bytes (Some (state, byte ∷ rest)) is = omega (arith, set_size-unit agg arg)
-
-pub set_size-state_in : (agg : AggName) (arg : Scalar) (bytes : List ℕ) → set_size (state_in agg arg bytes) ≤ length bytes
-set_size-state_in agg arg bytes = set_size-whole agg arg bytes (state_front agg arg bytes) refl
-
 -- a joint set has no more values than both
 pub set_size-join : (a b : AnyAgg) → set_size (join a b) ≤ set_size a + set_size b
 unfolding join
@@ -139,5 +102,5 @@ set_size-join a b = omega arith
 -- what bytes stand for joined fits where there are fewer than 2^64 bytes
 pub join_bytes-fits : (agg : AggName) (arg : Scalar) (a b : List ℕ) → length a + length b < 2 ^ 64 → FitsState agg arg (join (state_in agg arg a) (state_in agg arg b))
 join_bytes-fits agg arg a b small =
-    join-fits agg arg (state_in agg arg a) (state_in agg arg b) (state_in-fits agg arg a) (state_in-fits agg arg b)
+    join-fits agg arg (state_in agg arg a) (state_in agg arg b) (state_in-fits agg arg a (omega (arith, small))) (state_in-fits agg arg b (omega (arith, small)))
     (omega (arith, small, set_size-join (state_in agg arg a) (state_in agg arg b), set_size-state_in agg arg a, set_size-state_in agg arg b))

@@ -13,3 +13,4 @@ pub mod StateLaws
 pub mod StateLemmas
 pub mod TallyLemmas
 pub mod WholeLemmas
+pub mod WholeSetLemmas

@@ -1,11 +1,10 @@
 -- A state in bytes reads back, and nothing else is read.
-use Rattle.std.proofs.Common.{◌≡◌, ℕ, ℤ, pos, zero, suc, ◌^◌, ◌<◌, List, [], ◌∷◌, ◌++◌, length, Bool, true, false, ◌&&◌, if◌then◌else◌, Option, Some, None, Less, refl, sym, ap, ap₂, subst, ◌∙◌, arith, append_assoc, append-nil}
+use Rattle.std.proofs.Common.{◌≡◌, ℕ, ℤ, pos, zero, suc, ◌^◌, ◌<◌, ◌≤◌, List, [], ◌∷◌, ◌++◌, length, Bool, true, false, if◌then◌else◌, Option, Some, None, refl, sym, ap, ap₂, subst, ◌∙◌, ◌⊎◌, inl, inr, arith, append_assoc, append-nil}
 use Rattle.std.proofs.lemmas.Int.{ints}
-use Rattle.std.proofs.lemmas.List.Elements.{All-nil, All-head}
+use Rattle.std.proofs.lemmas.List.Elements.{All-nil}
 use Rattle.std.proofs.lemmas.Option.{none-some, same_Some, some_pair_parts}
 use Rattle.std.specs.Int.{to_le_bytes, w64}
-use Rattle.std.specs.Option.{option_map, option_and_then}
-use Rattle.std.specs.Ordering.{is_lt}
+use Rattle.std.specs.Option.{option_map, option_and_then, unwrap_or}
 use Rattle.byteorder.specs.Endian.{little_number}
 use Rattle.byteorder.specs.Numbers.{little_from-lt}
 use Rattle.chv_bytes.specs.Integers.{InRange, int_bytes, int_value, number_for}
@@ -13,20 +12,21 @@ use Rattle.chv_bytes.specs.declared.integer.IntKind.TheVariants.{I64}
 use Rattle.chv_bytes.proofs.IntegerLemmas.{integer_reads_back}
 use Rattle.chv_bytes.proofs.NumberLemmas.{bytes_of_whole}
 use Rattle.chv_types.specs.Fits.{IsOfScalar}
-use Rattle.chv_types.specs.Members.{Rises}
-use Rattle.chv_types.specs.Order.{value_cmp}
 use Rattle.chv_types.specs.declared.aggregate.AggName.{AggName}
 use Rattle.chv_types.specs.declared.aggregate.AggName.TheVariants as agg
 use Rattle.chv_types.specs.declared.kind.Scalar.{Scalar}
 use Rattle.chv_types.specs.declared.value.Value.{Value}
 use Rattle.chv_agg.specs.Plain.{values_spelling}
-use Rattle.chv_agg.specs.StateBytes.{found_bytes, found_in, rises, scalar_in, state_bytes, state_front, join_bytes, state_in, sum_in, uniq_in, values_in, whole_state, word_of}
-use Rattle.chv_agg.specs.States.{FitsFound, FitsState, is_signed, join, unit_of}
+use Rattle.chv_agg.specs.StateBytes.{found_bytes, found_in, rises, scalar_in, state_bytes, state_front, join_bytes, state_in, sum_in, uniq_in, values_in, whole_set, whole_state, word_of}
+use Rattle.chv_agg.specs.States.{FitsFound, FitsState, is_signed, IsOver, join, set_size, unit_of}
 use Rattle.chv_agg.specs.declared.any_agg.AnyAgg.{AnyAgg}
 use Rattle.chv_agg.specs.declared.any_agg.AnyAgg.TheVariants.{Count, SumU, SumI, Least, Greatest, Uniq}
-use Rattle.chv_agg.proofs.FrontLemmas.{and_parts, if_Some, integer_again, map_Some, number_again, scalar_in-append, scalar_in-Some, then_Some, values_in-append, values_in-Some, word_of-append, word_of-Some}
+use Rattle.chv_agg.proofs.FrontLemmas.{if_Some, integer_again, map_Some, number_again, scalar_in-append, scalar_in-Some, then_Some, values_in-append, values_in-Some, word_of-append, word_of-Some}
 use Rattle.chv_agg.proofs.JoinOrder.{join-assoc, join-comm}
-use Rattle.chv_agg.proofs.SetLemmas.{is_lt-Less, Rises-front}
+use Rattle.chv_agg.proofs.StateByteLemmas.{size_bytes}
+use Rattle.chv_agg.proofs.StateLaws.{IsOver-FitsState, join-IsOver}
+use Rattle.chv_agg.proofs.StateLemmas.{FitsState-few, set_size-unit}
+use Rattle.chv_agg.proofs.WholeSetLemmas.{IsSpelled, Rises-tested, tests_rising, whole_set-Some, whole_set-spelled}
 
 -- what is read is spelled in front of the bytes, and is a state of the function over values of the kind
 abbrev pub IsStateFront : AggName → Scalar → List ℕ → AnyAgg × List ℕ → Type 0
@@ -99,22 +99,6 @@ found_in-Some arg (suc zero ∷ bytes) read h =
     let value = scalar_in-Some arg bytes e.0 e.1 in
     subst (IsFoundFront arg (1 ∷ bytes)) e.2 (value.0, ap (λ (l : List ℕ). 1 ∷ l) value.1)
 found_in-Some arg (suc (suc byte) ∷ bytes) read h = absurd (none-some read h)
-
--- a list that tests as one that rises does so
-Rises-tested : (values : List Value) → rises values ≡ true → Rises value_cmp values
-Rises-tested [] h = tt
-Rises-tested (value ∷ []) h = (All-nil (λ w. value_cmp value w ≡ Less), tt)
-Rises-tested (value ∷ (next ∷ values)) h =
-    let e = and_parts (is_lt (value_cmp value next)) (rises (next ∷ values)) h in
-    Rises-front value next values (is_lt-Less (value_cmp value next) e.0) (Rises-tested (next ∷ values) e.1)
-
--- a list that rises tests as one that does
-tests_rising : (values : List Value) → Rises value_cmp values → rises values ≡ true
-tests_rising [] h = refl
-tests_rising (value ∷ []) h = refl
-tests_rising (value ∷ (next ∷ values)) h =
-    let below : is_lt (value_cmp value next) ≡ true = ap is_lt (All-head (λ w. value_cmp value w ≡ Less) next values h.0) in
-    ap₂ (λ (x y : Bool). x && y) below (tests_rising (next ∷ values) h.1)
 
 -- a set of values that were read, where they rise
 abbrev set_of : List Value × List ℕ → Option (AnyAgg × List ℕ)
@@ -203,54 +187,116 @@ unit_of-fits agg.Min arg = tt
 unit_of-fits agg.Max arg = tt
 unit_of-fits agg.UniqExact arg = (All-nil (IsOfScalar arg), tt, omega arith)
 
--- a state in bytes is what the bytes stand for
-pub state_in-spelled : (agg : AggName) (arg : Scalar) (state : AnyAgg) → FitsState agg arg state → state_in agg arg (state_bytes arg state) ≡ state
-state_in-spelled agg arg state h =
+-- a state with nothing behind it is what bytes stand for
+whole_again : (agg : AggName) (arg : Scalar) (state : AnyAgg) → FitsState agg arg state → whole_state (unit_of agg arg) (state_front agg arg (state_bytes arg state)) ≡ state
+whole_again agg arg state h =
     ap (λ (l : List ℕ). whole_state (unit_of agg arg) (state_front agg arg l)) (sym (append-nil (state_bytes arg state)))
     ∙ ap (whole_state (unit_of agg arg)) (state_front-spelled agg arg state [] h)
 
-whole_fits : (agg : AggName) (arg : Scalar) (front : Option (AnyAgg × List ℕ)) → ((read : AnyAgg × List ℕ) → front ≡ Some read → FitsState agg arg read.0)
-    → FitsState agg arg (whole_state (unit_of agg arg) front)
-whole_fits agg arg None h = unit_of-fits agg arg
-whole_fits agg arg (Some (state, [])) h = h (state, []) refl
-whole_fits agg arg (Some (state, byte ∷ bytes)) h = unit_of-fits agg arg
+-- a state in bytes is what the bytes stand for, however many values its set has
+pub state_in-reads_back : (agg : AggName) (arg : Scalar) (state : AnyAgg) → IsOver agg arg state → state_in agg arg (state_bytes arg state) ≡ state
+unfolding state_in state_bytes
+state_in-reads_back agg.Count arg state h = whole_again agg.Count arg state h
+state_in-reads_back agg.Sum arg state h = whole_again agg.Sum arg state h
+state_in-reads_back agg.Min arg state h = whole_again agg.Min arg state h
+state_in-reads_back agg.Max arg state h = whole_again agg.Max arg state h
+state_in-reads_back agg.UniqExact arg (Uniq values) h = ap (λ (set : Option AnyAgg). unwrap_or set (Uniq [])) (whole_set-spelled arg values h.0 h.1)
+state_in-reads_back agg.UniqExact arg state h = absurd h
+
+-- the same of one that fits
+pub state_in-spelled : (agg : AggName) (arg : Scalar) (state : AnyAgg) → FitsState agg arg state → state_in agg arg (state_bytes arg state) ≡ state
+state_in-spelled agg arg state h = state_in-reads_back agg arg state (IsOver-FitsState agg arg state h)
+
+-- a state is spelled by bytes, or is that of no values
+abbrev IsWhole : AggName → Scalar → List ℕ → AnyAgg → Type 0
+IsWhole agg arg bytes state = IsSpelled agg arg bytes state ⊎ (state ≡ unit_of agg arg)
+
+whole_front : (agg : AggName) (arg : Scalar) (bytes : List ℕ) (front : Option (AnyAgg × List ℕ)) → state_front agg arg bytes ≡ front → IsWhole agg arg bytes (whole_state (unit_of agg arg) front)
+whole_front agg arg bytes None is = inr refl
+whole_front agg arg bytes (Some (state, [])) is =
+    let e = state_front-Some agg arg bytes (state, []) is in
+    inl (IsOver-FitsState agg arg state e.0, e.1 ∙ append-nil (state_bytes arg state))
+whole_front agg arg bytes (Some (state, byte ∷ rest)) is = inr refl
+
+whole_values : (arg : Scalar) (bytes : List ℕ) (set : Option AnyAgg) → whole_set arg bytes ≡ set → IsWhole agg.UniqExact arg bytes (unwrap_or set (Uniq []))
+whole_values arg bytes None is = inr refl
+whole_values arg bytes (Some state) is = inl (whole_set-Some arg bytes state is)
+
+-- bytes spell the state that they stand for, or it is that of no values
+state_in-IsWhole : (agg : AggName) (arg : Scalar) (bytes : List ℕ) → IsWhole agg arg bytes (state_in agg arg bytes)
+unfolding state_in
+state_in-IsWhole agg.Count arg bytes = whole_front agg.Count arg bytes (state_front agg.Count arg bytes) refl
+state_in-IsWhole agg.Sum arg bytes = whole_front agg.Sum arg bytes (state_front agg.Sum arg bytes) refl
+state_in-IsWhole agg.Min arg bytes = whole_front agg.Min arg bytes (state_front agg.Min arg bytes) refl
+state_in-IsWhole agg.Max arg bytes = whole_front agg.Max arg bytes (state_front agg.Max arg bytes) refl
+state_in-IsWhole agg.UniqExact arg bytes = whole_values arg bytes (whole_set arg bytes) refl
 
 -- bytes stand for a state of the function over values of the kind, whatever they are
-pub state_in-fits : (agg : AggName) (arg : Scalar) (bytes : List ℕ) → FitsState agg arg (state_in agg arg bytes)
-state_in-fits agg arg bytes = whole_fits agg arg (state_front agg arg bytes) (λ read is. (state_front-Some agg arg bytes read is).0)
+over_whole : (agg : AggName) (arg : Scalar) (bytes : List ℕ) (state : AnyAgg) → IsWhole agg arg bytes state → IsOver agg arg state
+over_whole agg arg bytes state (inl spelled) = spelled.0
+over_whole agg arg bytes state (inr is) = subst (IsOver agg arg) (sym is) (IsOver-FitsState agg arg (unit_of agg arg) (unit_of-fits agg arg))
 
-whole_none : (unit : AnyAgg) (front : Option (AnyAgg × List ℕ)) → ((state : AnyAgg) → front ≡ Some (state, []) → ⊥) → whole_state unit front ≡ unit
-whole_none unit None h = refl
-whole_none unit (Some (state, [])) h = absurd (h state refl)
-whole_none unit (Some (state, byte ∷ bytes)) h = refl
+pub state_in-over : (agg : AggName) (arg : Scalar) (bytes : List ℕ) → IsOver agg arg (state_in agg arg bytes)
+state_in-over agg arg bytes = over_whole agg arg bytes (state_in agg arg bytes) (state_in-IsWhole agg arg bytes)
+
+-- it fits where its set has fewer than 2^64 values
+pub state_in-few : (agg : AggName) (arg : Scalar) (bytes : List ℕ) → set_size (state_in agg arg bytes) < 2 ^ 64 → FitsState agg arg (state_in agg arg bytes)
+state_in-few agg arg bytes few = FitsState-few agg arg (state_in agg arg bytes) few (state_in-over agg arg bytes)
+
+-- its set has no more values than there are bytes
+size_whole : (agg : AggName) (arg : Scalar) (bytes : List ℕ) (state : AnyAgg) → IsWhole agg arg bytes state → set_size state ≤ length bytes
+size_whole agg arg bytes state (inl spelled) =
+    let long : length bytes ≡ length (state_bytes arg state) = ap length spelled.1 in
+    omega (arith, long, size_bytes arg state agg spelled.0)
+size_whole agg arg bytes state (inr is) =
+    let none : set_size state ≡ 0 = ap set_size is ∙ set_size-unit agg arg in
+    omega (arith, none)
+
+pub set_size-state_in : (agg : AggName) (arg : Scalar) (bytes : List ℕ) → set_size (state_in agg arg bytes) ≤ length bytes
+set_size-state_in agg arg bytes = size_whole agg arg bytes (state_in agg arg bytes) (state_in-IsWhole agg arg bytes)
+
+-- so it fits where there are fewer than 2^64 bytes
+pub state_in-fits : (agg : AggName) (arg : Scalar) (bytes : List ℕ) → length bytes < 2 ^ 64 → FitsState agg arg (state_in agg arg bytes)
+state_in-fits agg arg bytes short = state_in-few agg arg bytes (omega (arith, short, set_size-state_in agg arg bytes))
+
+none_whole : (agg : AggName) (arg : Scalar) (bytes : List ℕ) (state : AnyAgg) → IsWhole agg arg bytes state → (IsSpelled agg arg bytes state → ⊥) → state ≡ unit_of agg arg
+none_whole agg arg bytes state (inl spelled) none = absurd (none spelled)
+none_whole agg arg bytes state (inr is) none = is
 
 -- bytes that spell no state stand for the state of no values
-pub state_in-none : (agg : AggName) (arg : Scalar) (bytes : List ℕ) → ((state : AnyAgg) → FitsState agg arg state → bytes ≡ state_bytes arg state → ⊥) → state_in agg arg bytes ≡ unit_of agg arg
+pub state_in-none : (agg : AggName) (arg : Scalar) (bytes : List ℕ) → ((state : AnyAgg) → IsOver agg arg state → bytes ≡ state_bytes arg state → ⊥) → state_in agg arg bytes ≡ unit_of agg arg
 state_in-none agg arg bytes none =
-    whole_none (unit_of agg arg) (state_front agg arg bytes) (λ state is.
-    let e = state_front-Some agg arg bytes (state, []) is in
-    none state e.0 (e.1 ∙ append-nil (state_bytes arg state)))
+    none_whole agg arg bytes (state_in agg arg bytes) (state_in-IsWhole agg arg bytes) (λ spelled. none (state_in agg arg bytes) spelled.0 spelled.1)
 
--- bytes that begin with a state and go on stand for the state of no values
-pub state_in-longer : (agg : AggName) (arg : Scalar) (bytes rest : List ℕ) (state : AnyAgg) → FitsState agg arg state → bytes ≡ state_bytes arg state ++ rest → 0 < length rest → state_in agg arg bytes ≡ unit_of agg arg
-state_in-longer agg arg bytes rest state fits same longer =
-    state_in-none agg arg bytes (λ other h is.
+-- of fewer than 2^64 bytes it is enough that they spell none that fits
+pub state_in-unfit : (agg : AggName) (arg : Scalar) (bytes : List ℕ) → length bytes < 2 ^ 64 → ((state : AnyAgg) → FitsState agg arg state → bytes ≡ state_bytes arg state → ⊥)
+    → state_in agg arg bytes ≡ unit_of agg arg
+state_in-unfit agg arg bytes short none =
+    state_in-none agg arg bytes (λ state over is.
+    let long : length bytes ≡ length (state_bytes arg state) = ap length is in
+    none state (FitsState-few agg arg state (omega (arith, long, short, size_bytes arg state agg over)) over) is)
+
+-- fewer than 2^64 bytes that begin with a state and go on stand for the state of no values
+pub state_in-longer : (agg : AggName) (arg : Scalar) (bytes rest : List ℕ) (state : AnyAgg) → length bytes < 2 ^ 64 → FitsState agg arg state → bytes ≡ state_bytes arg state ++ rest → 0 < length rest
+    → state_in agg arg bytes ≡ unit_of agg arg
+state_in-longer agg arg bytes rest state short fits same longer =
+    state_in-unfit agg arg bytes short (λ other h is.
     let e = one_state_in_front agg arg state other rest [] fits h (sym same ∙ is ∙ sym (append-nil (state_bytes arg other))) in
     let none : length rest ≡ 0 = ap length e.1 in
     absurd (omega (arith, none, longer)))
 
 -- states in bytes are joined as what they stand for
-pub join_bytes-joined : (agg : AggName) (arg : Scalar) (a b : List ℕ) → FitsState agg arg (join (state_in agg arg a) (state_in agg arg b))
-    → state_in agg arg (join_bytes agg arg a b) ≡ join (state_in agg arg a) (state_in agg arg b)
-join_bytes-joined agg arg a b fits = state_in-spelled agg arg (join (state_in agg arg a) (state_in agg arg b)) fits
+pub join_bytes-joined : (agg : AggName) (arg : Scalar) (a b : List ℕ) → state_in agg arg (join_bytes agg arg a b) ≡ join (state_in agg arg a) (state_in agg arg b)
+join_bytes-joined agg arg a b =
+    state_in-reads_back agg arg (join (state_in agg arg a) (state_in agg arg b))
+    (join-IsOver agg arg (state_in agg arg a) (state_in agg arg b) (state_in-over agg arg a) (state_in-over agg arg b))
 
 pub join_bytes-comm : (agg : AggName) (arg : Scalar) (a b : List ℕ) → join_bytes agg arg a b ≡ join_bytes agg arg b a
 join_bytes-comm agg arg a b = ap (state_bytes arg) (join-comm (state_in agg arg a) (state_in agg arg b))
 
-pub join_bytes-assoc : (agg : AggName) (arg : Scalar) (a b c : List ℕ) → FitsState agg arg (join (state_in agg arg a) (state_in agg arg b)) → FitsState agg arg (join (state_in agg arg b) (state_in agg arg c))
-    → join_bytes agg arg (join_bytes agg arg a b) c ≡ join_bytes agg arg a (join_bytes agg arg b c)
-join_bytes-assoc agg arg a b c h k =
+pub join_bytes-assoc : (agg : AggName) (arg : Scalar) (a b c : List ℕ) → join_bytes agg arg (join_bytes agg arg a b) c ≡ join_bytes agg arg a (join_bytes agg arg b c)
+join_bytes-assoc agg arg a b c =
     ap (state_bytes arg)
-    (ap (λ (s : AnyAgg). join s (state_in agg arg c)) (join_bytes-joined agg arg a b h)
+    (ap (λ (s : AnyAgg). join s (state_in agg arg c)) (join_bytes-joined agg arg a b)
     ∙ join-assoc (state_in agg arg a) (state_in agg arg b) (state_in agg arg c)
-    ∙ ap (join (state_in agg arg a)) (sym (join_bytes-joined agg arg b c k)))
+    ∙ ap (join (state_in agg arg a)) (sym (join_bytes-joined agg arg b c)))

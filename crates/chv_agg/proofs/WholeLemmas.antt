@@ -1,9 +1,9 @@
 -- States that bytes spell whole.
-use Rattle.std.proofs.Common.{◌≡◌, ◌≢◌, ℕ, ◌<◌, List, [], ◌∷◌, ◌++◌, length, drop, length-drop, append-nil, refl, sym, ap, subst, ◌∙◌, arith}
+use Rattle.std.proofs.Common.{◌≡◌, ◌≢◌, ℕ, ◌^◌, ◌<◌, List, [], ◌∷◌, ◌++◌, length, drop, length-drop, append-nil, refl, sym, ap, subst, ◌∙◌, arith}
 use Rattle.std.specs.Prelude.{IfOk}
 use Rattle.std.specs.declared.result.Result.{Result}
 use Rattle.std.specs.declared.result.Result.TheVariants.{Ok, Err}
-use Rattle.chv_agg.proofs.StateFrontLemmas.{state_in-longer, state_in-none, state_in-spelled, unit_of-fits}
+use Rattle.chv_agg.proofs.StateFrontLemmas.{state_in-longer, state_in-spelled, state_in-unfit, unit_of-fits}
 use Rattle.chv_agg.specs.StateBytes.{state_bytes, state_in}
 use Rattle.chv_agg.specs.States.{FitsState, unit_of}
 use Rattle.chv_agg.specs.declared.any_agg.AnyAgg.{AnyAgg}
@@ -15,7 +15,7 @@ nothing_left : (rest : List ℕ) → length rest ≡ 0 → rest ≡ []
 nothing_left [] e = refl
 nothing_left (byte ∷ rest) e = absurd (omega arith)
 
-module _ (function : AggName) (arg : Scalar) (bytes : List ℕ) where
+module _ (function : AggName) (arg : Scalar) (bytes : List ℕ) (short : length bytes < 2 ^ 64) where
   -- a state whose bytes are all that there are
   pub state_in-whole : (state : AnyAgg) (behind : ℕ) → FitsState function arg state → StandsAt (state_bytes arg state) bytes 0 behind → behind ≡ length bytes → state ≡ state_in function arg bytes
   state_in-whole state behind fits stands whole =
@@ -29,11 +29,11 @@ module _ (function : AggName) (arg : Scalar) (bytes : List ℕ) where
   state_in-part state behind fits stands part =
       let within = stands.within in
       let long : 0 < length (drop behind bytes) = omega (arith, length-drop behind bytes, part, within) in
-      sym (state_in-longer function arg bytes (drop behind bytes) state fits stands.spelled long)
+      sym (state_in-longer function arg bytes (drop behind bytes) state short fits stands.spelled long)
 
   -- no state
   pub state_in-nothing : ((state : AnyAgg) (rest : List ℕ) → FitsState function arg state → drop 0 bytes ≢ state_bytes arg state ++ rest) → unit_of function arg ≡ state_in function arg bytes
-  state_in-nothing none = sym (state_in-none function arg bytes (λ state fits is. none state [] fits (is ∙ sym (append-nil (state_bytes arg state)))))
+  state_in-nothing none = sym (state_in-unfit function arg bytes short (λ state fits is. none state [] fits (is ∙ sym (append-nil (state_bytes arg state)))))
 
 -- the state of no values is one over values of the kind
 pub fitting_unit : {E : Type 0} (function : AggName) (arg : Scalar) (result : Result AnyAgg E) → IfOk result (λ state. state ≡ unit_of function arg) → IfOk result (λ state. FitsState function arg state)

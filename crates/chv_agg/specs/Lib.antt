@@ -4,9 +4,11 @@ pub mod ExtremeLaws
 pub mod FoldLaws
 pub mod Functions
 pub mod Lists
+pub mod OfKinds
 pub mod Pairs
 pub mod Plain
 pub mod PlainLaws
+pub mod Sets
 pub mod SpellingLaws
 pub mod StateBytes
 pub mod StateReading

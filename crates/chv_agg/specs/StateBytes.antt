@@ -1,8 +1,9 @@
 -- States in bytes: docs/FORMATS.md, "States".
 use Rattle.std.specs.Prelude.{ℕ, ℤ, zero, suc, Bool, true, false, ◌&&◌, nat_le, nat_lt, if◌then◌else◌, List, [], ◌∷◌, ◌++◌, length, take, drop, Option, None, Some, ◌≡◌}
 use Rattle.std.specs.Int.{w64, to_le_bytes}
-use Rattle.std.specs.Option.{option_map, option_and_then}
+use Rattle.std.specs.Option.{option_map, option_and_then, unwrap_or}
 use Rattle.std.specs.Ordering.{is_lt}
+use Rattle.std.specs.Str.{bytes_eq}
 use Rattle.byteorder.specs.Endian.{little_number}
 use Rattle.chv_agg.specs.Plain.{integers_of, scalar_spelling, values_spelling}
 use Rattle.chv_agg.specs.States.{FitsState, is_signed, join, unit_of}
@@ -139,8 +140,22 @@ whole_state unit None = unit
 whole_state unit (Some (state, [])) = state
 whole_state unit (Some (state, byte ∷ bytes)) = unit
 
+-- the values of a kind that bytes spell up to their end, of which there are so many at most
+abbrev pub values_up_to : ℕ → Scalar → List ℕ → Option (List Value)
+values_up_to most arg [] = Some []
+values_up_to zero arg (byte ∷ bytes) = None
+values_up_to (suc most) arg (byte ∷ bytes) =
+    option_and_then (λ first. option_map (λ rest. first.0 ∷ rest) (values_up_to most arg first.1)) (scalar_in arg (byte ∷ bytes))
+
+-- the set that bytes spell: where it has 2^64 values or more, which no memory holds, their number stands modulo 2^64
+abbrev pub whole_set : Scalar → List ℕ → Option AnyAgg
+whole_set arg bytes =
+    option_and_then (λ values. if rises values && bytes_eq bytes (set_bytes arg values) then Some (Uniq values) else None)
+    (values_up_to (length bytes) arg (drop 8 bytes))
+
 -- the state that bytes spell; of bytes that spell none it is the state of no values
-abbrev pub state_in : AggName → Scalar → List ℕ → AnyAgg
+unfoldable pub state_in : AggName → Scalar → List ℕ → AnyAgg
+state_in agg.UniqExact arg bytes = unwrap_or (whole_set arg bytes) (Uniq [])
 state_in agg arg bytes = whole_state (unit_of agg arg) (state_front agg arg bytes)
 
 -- the bytes of the state that two states in bytes are joined to

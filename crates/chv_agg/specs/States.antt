@@ -82,6 +82,11 @@ join (Greatest a) (Greatest b) = Greatest (either_by higher a b)
 join (Uniq a) (Uniq b) = Uniq (members value_cmp (a ++ b))
 join a b = if nat_le (rank a) (rank b) then a else b
 
+-- how many values the set of a state has
+abbrev pub set_size : AnyAgg → ℕ
+set_size (Uniq values) = length values
+set_size other = 0
+
 -- states one after the other, behind a first one, as one
 abbrev pub merged : AnyAgg → List AnyAgg → AnyAgg
 merged = fold join

@@ -13,7 +13,7 @@ use Rattle.chv_catalog.specs.declared.definition.Definition.TheVariants.{Table}
 use Rattle.chv_catalog.specs.declared.table_def.TableDef.{TableDef}
 use Rattle.chv_commit.specs.Replays.{State, no_state}
 use Rattle.chv_commit.specs.declared.commit.Commit.{Commit}
-use Rattle.chv_query.specs.Accepted.{Accepted, IsAccepted, catalog_of, catalog_payload, is_built_table}
+use Rattle.chv_query.specs.Accepted.{Accepted, IsAccepted, catalog_of, catalog_payload}
 use Rattle.chv_query.specs.Definitions.{defined}
 use Rattle.chv_query.proofs.AcceptedLemmas.{IsSchema-push, catalog_of-push}
 use Rattle.chv_part.specs.Books.{Book, TableForm, no_book}
@@ -69,8 +69,8 @@ pub record HasCreated (tells : Type 0) (result : Result (Unit {0}) PutFault) (wa
   pub keeps : ChangesLogs tells (IsErrOf result put.Failed) (length was.schema.catalog.tables + 1) old new
 
 -- a table that is defined is one that a statement makes
-pub makes_table : (catalog : Catalog) (create : CreateTable) (def : TableDef) → FormedTable create → is_built_table create ≡ true → defined catalog create ≡ Ok def → MakesDefinition catalog (statement.CreateTable create) (Table def)
-makes_table catalog create def formed built is = record { built = built; passes = record { formed = formed; defines = is } }
+pub makes_table : (catalog : Catalog) (create : CreateTable) (def : TableDef) → FormedTable create → defined catalog create ≡ Ok def → MakesDefinition catalog (statement.CreateTable create) (Table def)
+makes_table catalog create def formed is = record { formed = formed; defines = is }
 
 -- a table that is not defined is refused
 pub create_refused : (store : Store) (create : CreateTable) (refuses : Refusal) → defined store.schema.catalog create ≡ Err refuses → Asks (create_wish create) store (Err refuses)
@@ -109,7 +109,7 @@ module _ (tells : Type 0) (client : ℕ) (result : Result (Unit {0}) PutFault) (
   number = length was.schema.catalog.tables + 1
 
   asks : Asks (create_wish create) was (Ok (Make accepted))
-  asks entries agree = ap (λ (r : Result TableDef Refusal). and_then r (λ d. Ok (Make (made create d)))) makes.passes.defines
+  asks entries agree = ap (λ (r : Result TableDef Refusal). and_then r (λ d. Ok (Make (made create d)))) makes.defines
 
   -- at a moment
   module _ (before : List ℕ) (m : Moment) (at : IsAt was old before m) where
@@ -123,7 +123,7 @@ module _ (tells : Type 0) (client : ℕ) (result : Result (Unit {0}) PutFault) (
     books = with_book number no_book (book_of m.history)
 
     lawful_next : IsLawful next
-    lawful_next = lawful_accepted accepted m.history at.lawful makes.built (subst (λ (catalog : Catalog). IsAccepted catalog accepted) at.catalog makes.passes)
+    lawful_next = lawful_accepted accepted m.history at.lawful (subst (λ (catalog : Catalog). IsAccepted catalog accepted) at.catalog makes)
 
     payloads_next : payloads ++ catalog_payload (made create def) ∷ [] ≡ map catalog_payload next.schema
     payloads_next = sym (map_push catalog_payload m.history.schema accepted)
@@ -196,11 +196,11 @@ module _ (tells : Type 0) (client : ℕ) (result : Result (Unit {0}) PutFault) (
     create_logged : tells → IsLogged was old.files → IsLogged is new.files
     create_logged tell logged =
         let payloads = map catalog_payload logged.schema in
-        let passes : IsAccepted (catalog_of logged.schema) accepted = subst (λ (catalog : Catalog). IsAccepted catalog accepted) logged.catalog makes.passes in
+        let passes : IsAccepted (catalog_of logged.schema) accepted = subst (λ (catalog : Catalog). IsAccepted catalog accepted) logged.catalog makes in
         let holds = call.logged tell payloads logged.commits logged.holds (logged.others number (omega arith)) in
         record {
           schema = logged.schema ++ accepted ∷ [];
-          lawful = IsSchema-push logged.schema accepted logged.lawful makes.built passes;
+          lawful = IsSchema-push logged.schema accepted logged.lawful passes;
           catalog = held.0 ∙ ap (with_definition (Table def)) logged.catalog ∙ sym (catalog_of-push logged.schema accepted);
           commits = with_one number [] logged.commits;
           holds = subst (λ (ps : List (List ℕ)). HoldsLogs is new.files ps (with_one number [] logged.commits)) (sym (map_push catalog_payload logged.schema accepted))

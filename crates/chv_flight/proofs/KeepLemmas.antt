@@ -43,8 +43,8 @@ keeps_made was is create definition within makes catalog rooms =
     let accepted : Accepted = record { statement = create; definition = definition } in
     let schema = within.defined.0 in
     let here : catalog_of schema ≡ was.schema.catalog = within.defined.2 in
-    let passes : IsAccepted (catalog_of schema) accepted = subst (λ (c : Catalog). IsAccepted c accepted) (sym here) makes.passes in
-    let lawful = IsSchema-push schema accepted within.defined.1 makes.built passes in
+    let passes : IsAccepted (catalog_of schema) accepted = subst (λ (c : Catalog). IsAccepted c accepted) (sym here) makes in
+    let lawful = IsSchema-push schema accepted within.defined.1 passes in
     let next : catalog_of (schema ++ accepted ∷ []) ≡ is.schema.catalog = catalog_of-push schema accepted ∙ ap (with_definition definition) here ∙ sym catalog in
     record {
       plans = λ held plan delivers.

@@ -49,7 +49,7 @@ TellsTable tables (TellParts table def) = Unit {0}
 pub rows_asked : (catalog : Catalog) (entries : ℕ → ℕ) (text : Option Statement) (query : Asked) → task_of catalog entries text ≡ Ok (TellRows query) → StandsAt catalog.tables query
 rows_asked catalog entries text query asks =
     subst (λ (task : Result Task Refusal). IfOk task (TellsTable catalog.tables)) asks
-    (task_holds catalog entries (TellsTable catalog.tables) (query_stands catalog) (λ table def. tt) text (λ accepted is built defines. tt) (λ brought is plan brings room. tt))
+    (task_holds catalog entries (TellsTable catalog.tables) (query_stands catalog) (λ table def. tt) text (λ accepted is defines. tt) (λ brought is plan brings room. tt))
 
 -- the damage that a request meets is of a table that stands
 pub meets_held : (request : Request) (store : Store) (outside : Outside) (damage : Damage) → IsWithin store

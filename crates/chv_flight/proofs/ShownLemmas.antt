@@ -16,7 +16,8 @@ use Rattle.chv_part.specs.Books.{TableForm, Book, normal_rows, part_rows, rows_i
 use Rattle.chv_part.specs.Forms.{form_of}
 use Rattle.chv_part.specs.Standing.{IsPart}
 use Rattle.chv_part.specs.declared.damage.Damage.{Damage}
-use Rattle.chv_query.specs.Queries.{Asked, asked, divides}
+use Rattle.chv_query.proofs.QueryLemmas.{asked_select-asked}
+use Rattle.chv_query.specs.Queries.{Asked, asked_select, divides}
 use Rattle.chv_site.specs.Effects.{OnlyReads}
 use Rattle.chv_site.specs.Faults.{HasRisen}
 use Rattle.chv_site.specs.Files.{FileState, IsFrontOf}
@@ -111,8 +112,8 @@ unfolding query_text
 text_refused client query rows is = ap (λ (b : Bool). if b then refused_line client DivisionByZero else shown_text client query rows) is
 
 -- a query that no check refuses is of a table of the store
-pub asked_of_store : (store : Store) (select : Select) (query : Asked) → asked store.schema.catalog select ≡ Ok query → IsOfStore store query
-asked_of_store store select query asks = let found = asked_stands store.schema.catalog select query asks in record { first = found.first; stands = found.stands }
+pub asked_of_store : (store : Store) (select : Select) (query : Asked) → asked_select store.schema.catalog select ≡ Ok query → IsOfStore store query
+asked_of_store store select query asks = let found = asked_stands store.schema.catalog select query (asked_select-asked store.schema.catalog select query asks) in record { first = found.first; stands = found.stands }
 
 -- the table of such a query stands
 pub query_table : (store : Store) (query : Asked) (number : ℕ) → number ≡ query.table → IsOfStore store query → IsTable store number

@@ -9,7 +9,7 @@ use Rattle.chv_catalog.proofs.StepLemmas.{and_then-Ok, refuse_if-Ok}
 use Rattle.chv_catalog.specs.Schemas.{Catalog}
 use Rattle.chv_query.specs.Definitions.{defined}
 use Rattle.chv_query.specs.Plans.{planned}
-use Rattle.chv_query.specs.Queries.{Asked, asked}
+use Rattle.chv_query.specs.Queries.{Asked, asked_select}
 use Rattle.chv_query.specs.Tables.{table_of}
 use Rattle.chv_query.specs.Views.{defined_view}
 use Rattle.chv_types.specs.Steps.{and_then, refuse_if}
@@ -69,7 +69,7 @@ nothing_built : (catalog : Catalog) (entries : ℕ → ℕ) (asks : Statement) �
 nothing_built catalog entries (statement.CreateTable made) none = nothing_then (defined catalog made) _ (λ def. tt)
 nothing_built catalog entries (statement.CreateView made) none = nothing_then (defined_view catalog made) _ (λ def. tt)
 nothing_built catalog entries (statement.Insert brought) none = absurd (none brought refl)
-nothing_built catalog entries (statement.Query select) none = nothing_then (asked catalog select) (λ query. Ok (TellRows query)) (λ query. tt)
+nothing_built catalog entries (statement.Query select) none = nothing_then (asked_select catalog select) (λ query. Ok (TellRows query)) (λ query. tt)
 nothing_built catalog entries (statement.ShowParts parts) none = nothing_then (table_of catalog parts.table) (λ found. Ok (TellParts found.0 found.1)) (λ found. tt)
 nothing_built catalog entries (statement.Optimize all) none = tt
 nothing_built catalog entries statement.FlushQueue none = tt

@@ -65,7 +65,7 @@ pub record HasViewed (tells : Type 0) (result : Result (Unit {0}) PutFault) (was
 
 -- a view that is defined is one that a statement makes
 pub makes_view : (catalog : Catalog) (create : CreateView) (def : ViewDef) → FormedView create → defined_view catalog create ≡ Ok def → MakesDefinition catalog (statement.CreateView create) (View def)
-makes_view catalog create def formed is = record { built = refl; passes = record { formed = formed; defines = is } }
+makes_view catalog create def formed is = record { formed = formed; defines = is }
 
 -- a view that is not defined is refused
 pub view_refused : (store : Store) (create : CreateView) (refuses : Refusal) → defined_view store.schema.catalog create ≡ Err refuses → Asks (view_wish create) store (Err refuses)
@@ -84,7 +84,7 @@ module _ (tells : Type 0) (client : ℕ) (result : Result (Unit {0}) PutFault) (
   payload = catalog_payload (viewed create def)
 
   asks : Asks (view_wish create) was (Ok (Make accepted))
-  asks entries agree = ap (λ (r : Result ViewDef Refusal). and_then r (λ d. Ok (Make (viewed create d)))) makes.passes.defines
+  asks entries agree = ap (λ (r : Result ViewDef Refusal). and_then r (λ d. Ok (Make (viewed create d)))) makes.defines
 
   -- at a moment
   module _ (before : List ℕ) (m : Moment) (at : IsAt was old before m) where
@@ -95,7 +95,7 @@ module _ (tells : Type 0) (client : ℕ) (result : Result (Unit {0}) PutFault) (
     payloads = map catalog_payload m.history.schema
 
     lawful_next : IsLawful next
-    lawful_next = lawful_accepted accepted m.history at.lawful makes.built (subst (λ (catalog : Catalog). IsAccepted catalog accepted) at.catalog makes.passes)
+    lawful_next = lawful_accepted accepted m.history at.lawful (subst (λ (catalog : Catalog). IsAccepted catalog accepted) at.catalog makes)
 
     payloads_next : payloads ++ payload ∷ [] ≡ map catalog_payload next.schema
     payloads_next = sym (map_push catalog_payload m.history.schema accepted)
@@ -153,12 +153,12 @@ module _ (tells : Type 0) (client : ℕ) (result : Result (Unit {0}) PutFault) (
     view_logged : tells → IsLogged was old.files → IsLogged is new.files
     view_logged tell logged =
         let payloads = map catalog_payload logged.schema in
-        let passes : IsAccepted (catalog_of logged.schema) accepted = subst (λ (catalog : Catalog). IsAccepted catalog accepted) logged.catalog makes.passes in
+        let passes : IsAccepted (catalog_of logged.schema) accepted = subst (λ (catalog : Catalog). IsAccepted catalog accepted) logged.catalog makes in
         let holds = call.logged tell payloads logged.commits logged.holds in
         let tables : is.schema.catalog.tables ≡ was.schema.catalog.tables = ap (λ (catalog : Catalog). catalog.tables) held.0 in
         record {
           schema = logged.schema ++ accepted ∷ [];
-          lawful = IsSchema-push logged.schema accepted logged.lawful makes.built passes;
+          lawful = IsSchema-push logged.schema accepted logged.lawful passes;
           catalog = held.0 ∙ ap (with_definition (View def)) logged.catalog ∙ sym (catalog_of-push logged.schema accepted);
           commits = logged.commits;
           holds = subst (λ (ps : List (List ℕ)). HoldsLogs is new.files ps logged.commits) (sym (map_push catalog_payload logged.schema accepted))

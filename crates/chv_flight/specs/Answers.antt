@@ -27,7 +27,7 @@ use Rattle.chv_part.specs.Forms.{form_of}
 use Rattle.chv_part.specs.declared.damage.Damage.{Damage}
 use Rattle.chv_query.specs.Tables.{table_of}
 use Rattle.chv_query.specs.Plans.{planned}
-use Rattle.chv_query.specs.Queries.{Asked, asked}
+use Rattle.chv_query.specs.Queries.{Asked, asked_select}
 use Rattle.chv_site.specs.During.{During}
 use Rattle.chv_site.specs.FileIds.{table_log}
 use Rattle.chv_site.specs.Files.{FileState, KeepsFiles}
@@ -127,7 +127,7 @@ pub record Answers (tells : Type 0) (client : ℕ) (wish : Wish) (result : Resul
 
 -- the rows of a query are asked for
 abbrev pub query_wish : Select → Wish
-query_wish select catalog entries = and_then (asked catalog select) (λ query. Ok (TellRows query))
+query_wish select catalog entries = and_then (asked_select catalog select) (λ query. Ok (TellRows query))
 
 -- a query is of a table of the store
 pub record IsOfStore (store : Store) (query : Asked) : Type 0 where

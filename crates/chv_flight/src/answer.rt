@@ -5,7 +5,6 @@ ghost use Rattle.chv_store.specs.Stores.{IsUsable};
 ghost use Rattle.chv_flight.specs.Answers.{Answers, statement_wish};
 ghost use Rattle.chv_flight.specs.Takes.{KeepsPlans};
 
-use crate::built::is_built;
 use crate::create::{create, create_view};
 use crate::fault::RunFault;
 use crate::parts::show_parts;
@@ -52,9 +51,6 @@ fn answer_other<W: Site>(
     ensures answers { Answers W.tells client (statement_wish (Some statement.now)) result store.old store.new (W.outside site.old) (W.outside site.new) }
     ensures keeps { OnOk result (KeepsPlans store.old store.new) }
 {
-    if !is_built(statement) {
-        return refuse(site, client, Refusal::NotBuilt);
-    }
     match statement {
         Statement::CreateTable(made) => create(alloc, site, store, client, made),
         Statement::Query(asked) => select(alloc, site, store, client, asked),

@@ -1,9 +1,8 @@
 // CREATE TABLE and CREATE MATERIALIZED VIEW.
-ghost use Rattle.std.specs.Prelude.{◌≡◌, true, Ok, Err, OnOk};
+ghost use Rattle.std.specs.Prelude.{◌≡◌, Ok, Err, OnOk};
 ghost use Rattle.chv_print.specs.StatementTexts.{statement_text};
 ghost use Rattle.chv_ast.specs.Formed.{FormedTable, FormedView};
 ghost use Rattle.chv_catalog.specs.declared.definition.Definition.TheVariants as definition;
-ghost use Rattle.chv_query.specs.Accepted.{is_built_table};
 ghost use Rattle.chv_store.specs.Openings.{MakesDefinition, TextMakes};
 ghost use Rattle.chv_store.specs.Stores.{IsUsable};
 ghost use Rattle.chv_flight.specs.Answers.{Answers, create_wish, view_wish};
@@ -19,7 +18,7 @@ use chv_store::Store;
 use chv_text::line_ok;
 use std::alloc::Global;
 
-/// Answers a CREATE TABLE statement that is built; true where it was refused. After an `Err` the store is not used again.
+/// Answers a CREATE TABLE statement; true where it was refused. After an `Err` the store is not used again.
 pub fn create<W: Site>(
     alloc: Global,
     site: &mut W,
@@ -29,7 +28,6 @@ pub fn create<W: Site>(
 ) -> Result<bool, RunFault>
     requires usable { IsUsable W.tells store.old (W.outside site.old) }
     requires formed { FormedTable made.now }
-    requires built { is_built_table made.now ≡ true }
     ensures answers { Answers W.tells client (create_wish made.now) result store.old store.new (W.outside site.old) (W.outside site.new) }
     ensures keeps { OnOk result (KeepsPlans store.old store.new) }
 {

@@ -2,7 +2,6 @@
 #![tactic(auto)]
 
 mod answer;
-mod built;
 mod client;
 mod create;
 mod deliver;

@@ -1,9 +1,9 @@
 -- Keys, their places, and the states of their groups.
-use Rattle.std.proofs.Common.{◌≡◌, ◌∙◌, ◌+◌, ◌*◌, ◌-◌, ◌<◌, ◌≤◌, ℕ, zero, suc, ℤ, pos, Bool, true, false, List, [], ◌∷◌, ◌++◌, length, map, get_or, nat_eq, ne_eqb, eqb-true, refl, sym, ap, ap₂, subst, arith}
+use Rattle.std.proofs.Common.{◌≡◌, ◌∙◌, ◌+◌, ◌*◌, ◌-◌, ◌<◌, ◌≤◌, ℕ, ℤ, pos, true, false, List, [], ◌∷◌, ◌++◌, length, map, get_or, nat_eq, ne_eqb, eqb-true, refl, sym, ap, ap₂, subst, arith}
 use Rattle.std.proofs.lemmas.Bool.{eqb-false}
 use Rattle.std.proofs.lemmas.Cmp.{nat_eq_equiv}
 use Rattle.std.proofs.lemmas.List.{append_assoc, get_or-append-add, get_or-map, get_or_append_left, length-append, length-map}
-use Rattle.std.proofs.lemmas.List.Elements.{All-cons, All-from_recursion, All-get_or, All-head, All-tail}
+use Rattle.std.proofs.lemmas.List.Elements.{All-from_recursion}
 use Rattle.std.proofs.lemmas.List.Sorted.{IsPermutation-map}
 use Rattle.std.proofs.lemmas.Map.Keys.{IsDistinct-IsPermutation, IsDistinct-from_apart, IsDistinct-head}
 use Rattle.std.specs.List.{All, IsDistinct}
@@ -16,7 +16,7 @@ use Rattle.chv_group.proofs.PartLemmas.{groups_of-at, keys-groups_of, length-gro
 use Rattle.chv_group.proofs.TallyLemmas.{values_of-states_over}
 use Rattle.chv_group.specs.Groups.{inputs_of, row_for}
 use Rattle.chv_group.specs.Keys.{AreApart, ArePlaced, Group, HasStates, all_values, key_values, placed_groups, placed_row, states_at}
-use Rattle.chv_group.specs.Takings.{HaveStates, IsOverInputs, group_keys}
+use Rattle.chv_group.specs.Takings.{HaveStates, IsOverInputs}
 use Rattle.chv_group.specs.Tallies.{AreOver, KeepsOthers, part, states_over, values_of}
 use Rattle.chv_group.specs.declared.call.AggCall.{AggCall}
 use Rattle.chv_group.specs.declared.call.Keyed.{Keyed}

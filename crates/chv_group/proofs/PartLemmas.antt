@@ -6,7 +6,6 @@ use Rattle.std.proofs.lemmas.List.{drop-append-le, drop-drop, drop-set-add, drop
 use Rattle.std.proofs.lemmas.Nat.{mul-le}
 use Rattle.std.proofs.Math.Seq.{take-set-lt}
 use Rattle.std.specs.Ordering.{nat_cmp}
-use Rattle.std.specs.declared.cmp.Ordering.{Ordering}
 use Rattle.chv_agg.specs.declared.any_agg.AnyAgg.{AnyAgg}
 use Rattle.chv_group.specs.Keys.{Group, groups_of}
 use Rattle.chv_group.specs.Takings.{group_keys}

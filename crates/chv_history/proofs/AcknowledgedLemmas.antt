@@ -236,7 +236,7 @@ planned_known plans plan P holds same = subst (λ (r : Result Plan Refusal). IfO
 
 pub known_task : (asked : Option Statement) (history : History) → AreFilling (catalog_of history.schema) → IfOk (task_of (catalog_of history.schema) (entries_in history) asked) (TaskKnown history)
 known_task asked history filling =
-    task_holds (catalog_of history.schema) (entries_in history) (TaskKnown history) (λ select query asks. tt) (λ table def. tt) asked (λ accepted is built defines. tt)
+    task_holds (catalog_of history.schema) (entries_in history) (TaskKnown history) (λ select query asks. tt) (λ table def. tt) asked (λ accepted is defines. tt)
     (λ brought is plan brings room. planned_known (planned (catalog_of history.schema) brought) plan (All (IsKnown history)) (planned-within (catalog_of history.schema) filling brought) brings)
 
 abbrev pub FillingHeld : List Event → Moment → Type 0

@@ -43,7 +43,7 @@ TaskDefines catalog (TellRows query) = Unit {0}
 TaskDefines catalog (TellParts table def) = Unit {0}
 
 task_defines : (catalog : Catalog) (entries : ℕ → ℕ) (asked : Option Statement) → IfOk (task_of catalog entries asked) (TaskDefines catalog)
-task_defines catalog entries asked = task_holds catalog entries (TaskDefines catalog) (λ select query asks. tt) (λ table def. tt) asked (λ accepted is built defines. defines) (λ brought is plan brings room. tt)
+task_defines catalog entries asked = task_holds catalog entries (TaskDefines catalog) (λ select query asks. tt) (λ table def. tt) asked (λ accepted is defines. defines) (λ brought is plan brings room. tt)
 
 -- so it is of what is held, whatever the files hold
 filling_plan : (plan : Plan) (kept : Kept) → (kept_plan plan kept).catalog ≡ kept.catalog

@@ -9,7 +9,7 @@ use Rattle.chv_catalog.specs.declared.definition.Definition.{Definition}
 use Rattle.chv_catalog.specs.declared.definition.Definition.TheVariants.{Table, View}
 use Rattle.chv_catalog.specs.declared.table_def.TableDef.{TableDef}
 use Rattle.chv_commit.specs.Replays.{MAX_ENTRIES, Span}
-use Rattle.chv_query.specs.Accepted.{Accepted, IsAccepted, IsSchema, catalog_of, is_built_create, tables_in, tables_of}
+use Rattle.chv_query.specs.Accepted.{Accepted, IsAccepted, IsSchema, catalog_of, tables_in, tables_of}
 use Rattle.chv_query.proofs.AcceptedLemmas.{IsSchema-push, tables_of-push}
 use Rattle.chv_part.specs.Books.{TableForm, IsLawfulBook, no_book, arrived}
 use Rattle.chv_part.specs.Forms.{form_of}
@@ -130,9 +130,9 @@ module _ (accepted : Accepted) (history : History) (lawful : IsLawful history) w
       subst (λ (f : TableForm). IsLawfulBook f (book_of (with_accepted accepted history) (place + 1))) (sym at.2) (still_book place at.0 at.1)
 
   -- a statement is accepted
-  pub lawful_accepted : is_built_create accepted.statement ≡ true → IsAccepted (catalog_of history.schema) accepted → IsLawful (with_accepted accepted history)
-  lawful_accepted built is =
-      let schema = IsSchema-push history.schema accepted lawful.schema built is in
+  pub lawful_accepted : IsAccepted (catalog_of history.schema) accepted → IsLawful (with_accepted accepted history)
+  lawful_accepted is =
+      let schema = IsSchema-push history.schema accepted lawful.schema is in
       record { schema = schema; arrivals = still_arrivals schema; books = still_books }
 
 -- what arrives in the table of a number came along a path that leads there, and the table has room for it

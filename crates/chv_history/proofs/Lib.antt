@@ -12,6 +12,15 @@ pub mod LeftLemmas
 pub mod LifeLemmas
 pub mod LookupLemmas
 pub mod MadeLemmas
+pub mod MergeBlindDefinitions
+pub mod MergeBlindJoints
+pub mod MergeBlindLayouts
+pub mod MergeBlindOutcomes
+pub mod MergeBlindQueries
+pub mod MergeBlindResults
+pub mod MergeBlindRows
+pub mod MergeBlindStates
+pub mod MergeBlindTerms
 pub mod PlannedLemmas
 pub mod RefusalLemmas
 pub mod RequestLemmas

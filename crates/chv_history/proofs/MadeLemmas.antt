@@ -7,7 +7,7 @@ use Rattle.chv_ast.specs.declared.refusal.Refusal.{Refusal}
 use Rattle.chv_ast.specs.declared.statement.Statement.{Statement}
 use Rattle.chv_catalog.specs.Schemas.{Catalog}
 use Rattle.chv_part.specs.Forms.{form_of}
-use Rattle.chv_query.specs.Accepted.{Accepted, IsAccepted, IsSchema, catalog_of, is_built_create}
+use Rattle.chv_query.specs.Accepted.{Accepted, IsAccepted, IsSchema, catalog_of}
 use Rattle.chv_query.specs.Arrivals.{Arrival}
 use Rattle.chv_query.specs.Plans.{Delivery}
 use Rattle.chv_query.specs.Queries.{divides}
@@ -134,7 +134,7 @@ go_silent text refuses done m control made going = go_reply text [] refuses done
 
 -- a task that a schema allows
 abbrev pub TaskAllowed : History → Task → Type 0
-TaskAllowed history (Make accepted) = (is_built_create accepted.statement ≡ true) × IsAccepted (catalog_of history.schema) accepted
+TaskAllowed history (Make accepted) = IsAccepted (catalog_of history.schema) accepted
 TaskAllowed history (Bring plan) = All (ArrivesIn (catalog_of history.schema)) plan
 TaskAllowed history (TellRows query) = Unit {0}
 TaskAllowed history (TellParts table def) = Unit {0}
@@ -142,7 +142,7 @@ TaskAllowed history (TellParts table def) = Unit {0}
 pub allowed_task : (asked : Option Statement) (entries : ℕ → ℕ) (history : History) → IsSchema history.schema → IsAskFormed asked → IfOk (task_of (catalog_of history.schema) entries asked) (TaskAllowed history)
 allowed_task asked entries history schema formed =
     task_holds (catalog_of history.schema) entries (TaskAllowed history) (λ select query asks. tt) (λ table def. tt) asked
-    (λ accepted is built defines. (built, record { formed = formed accepted.statement is; defines = defines }))
+    (λ accepted is defines. record { formed = formed accepted.statement is; defines = defines })
     (λ brought is plan brings room. planned-arrives history.schema schema brought plan brings)
 
 -- an answer that brings nothing
@@ -151,7 +151,7 @@ go_task : (client : ℕ) (task : Task) (done : List Event) (m : Moment) (control
 go_task client (Make accepted) done m control allowed nothing made going =
     let event = Created accepted in
     let next = happen event m in
-    let schema = IsSchema-push m.history.schema accepted made.0 allowed.0 allowed.1 in
+    let schema = IsSchema-push m.history.schema accepted made.0 allowed in
     through-more AreMade AreGoing event (Replied (ok_line client) [] false ∷ []) done m control made
     (go_silent (ok_line client) false (done ++ event ∷ []) next control (all_made event done m schema made (All-nil (All (IsMade (done ++ event ∷ []) next.history)))) (all_going event done m schema control going))
 go_task client (Bring plan) done m control allowed nothing made going = absurd nothing

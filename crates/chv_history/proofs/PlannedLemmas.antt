@@ -100,5 +100,5 @@ TaskBrings (TellParts table def) = Unit {0}
 
 pub task_brings : (catalog : Catalog) (entries : ℕ → ℕ) (asked : Option Statement) → IsAskFormed asked → IfOk (task_of catalog entries asked) TaskBrings
 task_brings catalog entries asked formed =
-    task_holds catalog entries TaskBrings (λ select query asks. tt) (λ table def. tt) asked (λ accepted is built defines. tt)
+    task_holds catalog entries TaskBrings (λ select query asks. tt) (λ table def. tt) asked (λ accepted is defines. tt)
     (λ brought is plan brings room. planned-some catalog brought plan (some_written brought.rows (formed (statement.Insert brought) is).3) brings)

@@ -118,7 +118,7 @@ TaskFits entries (TellParts table def) = Unit {0}
 
 pub fits_task : (asked : Option Statement) (entries : ℕ → ℕ) (history : History) → IfOk (task_of (catalog_of history.schema) entries asked) (TaskFits entries)
 fits_task asked entries history =
-    task_holds (catalog_of history.schema) entries (TaskFits entries) (λ select query asks. tt) (λ table def. tt) asked (λ accepted is built defines. tt) (λ brought is plan brings room. room)
+    task_holds (catalog_of history.schema) entries (TaskFits entries) (λ select query asks. tt) (λ table def. tt) asked (λ accepted is defines. tt) (λ brought is plan brings room. room)
 
 -- a task that brings nothing keeps a history lawful
 sound_by : (task : Result Task Refusal) (history : History) → IfOk task (TaskAllowed history) → BringsNothing task → IfOk task (TaskSound history)

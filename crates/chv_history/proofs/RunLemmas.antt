@@ -6,7 +6,7 @@ use Rattle.std.proofs.lemmas.List.Elements.{All-cons, All-head, All-nil, All-tai
 use Rattle.chv_ast.specs.declared.refusal.Refusal.{Refusal}
 use Rattle.chv_ast.specs.declared.statement.Insert.{Insert}
 use Rattle.chv_commit.specs.Replays.{MAX_ENTRIES}
-use Rattle.chv_query.specs.Accepted.{Accepted, IsAccepted, catalog_of, is_built_create}
+use Rattle.chv_query.specs.Accepted.{Accepted, IsAccepted, catalog_of}
 use Rattle.chv_query.specs.Plans.{Delivery, planned}
 use Rattle.chv_query.proofs.ArrivalLemmas.{ArrivesIn, planned-arrives}
 use Rattle.chv_history.specs.Events.{Event, Plan, Moment, behind, happen}
@@ -111,7 +111,7 @@ may_bring asked plan history lawful brings room =
 
 -- a task that keeps a history lawful
 abbrev pub TaskSound : History → Task → Type 0
-TaskSound history (Make accepted) = (is_built_create accepted.statement ≡ true) × IsAccepted (catalog_of history.schema) accepted
+TaskSound history (Make accepted) = IsAccepted (catalog_of history.schema) accepted
 TaskSound history (Bring plan) = MayBring history plan
 TaskSound history (TellRows query) = Unit {0}
 TaskSound history (TellParts table def) = Unit {0}
@@ -119,12 +119,12 @@ TaskSound history (TellParts table def) = Unit {0}
 pub sound_task : (request : Request) (history : History) → IsLawful history → IsFormed request → IfOk (task_of (catalog_of history.schema) (entries_in history) request.statement) (TaskSound history)
 sound_task request history lawful formed =
     task_holds (catalog_of history.schema) (entries_in history) (TaskSound history) (λ select query asks. tt) (λ table def. tt) request.statement
-    (λ accepted is built defines. (built, record { formed = formed accepted.statement is; defines = defines }))
+    (λ accepted is defines. record { formed = formed accepted.statement is; defines = defines })
     (λ brought is plan brings room. may_bring brought plan history lawful brings room)
 
 lawful_task : (client : ℕ) (task : Task) (done : List Event) (m : Moment) → TaskSound m.history task → IsLawful m.history → While Lawful done (task_events client task m.history) m
 lawful_task client (Make accepted) done m sound lawful =
-    let made = lawful_accepted accepted m.history lawful sound.0 sound.1 in
+    let made = lawful_accepted accepted m.history lawful sound in
     (lawful, (made, made))
 lawful_task client (Bring plan) done m sound lawful =
     let events = map delivery_event plan in

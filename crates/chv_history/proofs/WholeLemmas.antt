@@ -234,7 +234,7 @@ arriving_deliveries (d ∷ plan) done m arriving = (
 
 arriving_task : (client : ℕ) (task : Task) (done : List Event) (m : Moment) → IsLawful m.history → TaskSound m.history task → Arriving done m → While Arriving done (task_events client task m.history) m
 arriving_task client (Make accepted) done m lawful sound arriving =
-    let schema = IsSchema-push m.history.schema accepted lawful.schema sound.0 sound.1 in
+    let schema = IsSchema-push m.history.schema accepted lawful.schema sound in
     (arriving, arriving_reply (ok_line client) false (done ++ Created accepted ∷ []) (happen (Created accepted) m) (arriving_created accepted m schema arriving))
 arriving_task client (Bring plan) done m lawful sound arriving =
     let events = map delivery_event plan in

@@ -2,14 +2,12 @@
 use Rattle.std.specs.Prelude.{Bool, true, false, not}
 use Rattle.chv_ast.specs.declared.statement.Statement.{Statement}
 use Rattle.chv_ast.specs.declared.statement.Statement.TheVariants as statement
-use Rattle.chv_query.specs.Accepted.{is_built_table}
 
--- a table whose rows are not merged, and each view; rows that are not held for later; a query without FINAL; and the parts of
--- a table
+-- each table and each view; rows that are not held for later; each query; and the parts of a table
 unfoldable pub is_built : Statement → Bool
-is_built (statement.CreateTable made) = is_built_table made
+is_built (statement.CreateTable made) = true
 is_built (statement.CreateView made) = true
 is_built (statement.Insert brought) = not brought.settings.later
-is_built (statement.Query asked) = not asked.merged
+is_built (statement.Query asked) = true
 is_built (statement.ShowParts asked) = true
 is_built other = false

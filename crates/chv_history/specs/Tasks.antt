@@ -13,7 +13,7 @@ use Rattle.chv_query.specs.Accepted.{Accepted}
 use Rattle.chv_query.specs.Definitions.{defined}
 use Rattle.chv_query.specs.Tables.{table_of}
 use Rattle.chv_query.specs.Plans.{Delivery, planned}
-use Rattle.chv_query.specs.Queries.{Asked, asked}
+use Rattle.chv_query.specs.Queries.{Asked, asked_select}
 use Rattle.chv_query.specs.Views.{defined_view}
 use Rattle.chv_types.specs.Steps.{and_then, refuse_if}
 use Rattle.chv_history.specs.Built.{is_built}
@@ -44,7 +44,7 @@ built_task catalog entries (statement.CreateView made) =
     and_then (defined_view catalog made) (λ def. Ok (Make (record { statement = statement.CreateView made; definition = View def })))
 built_task catalog entries (statement.Insert brought) =
     and_then (planned catalog brought) (λ plan. refuse_if (not (has_room plan entries)) LimitPassed (Ok (Bring plan)))
-built_task catalog entries (statement.Query select) = and_then (asked catalog select) (λ query. Ok (TellRows query))
+built_task catalog entries (statement.Query select) = and_then (asked_select catalog select) (λ query. Ok (TellRows query))
 built_task catalog entries (statement.ShowParts asked) = and_then (table_of catalog asked.table) (λ found. Ok (TellParts found.0 found.1))
 built_task catalog entries other = Err NotBuilt
 

@@ -1,1 +1,12 @@
+pub mod AdjacentLemmas
+pub mod AggregatedLemmas
+pub mod ByKeyLemmas
+pub mod ColumnLemmas
+pub mod EngineLemmas
+pub mod JoinLemmas
+pub mod KeyLemmas
+pub mod KindLemmas
+pub mod MergeLemmas
 pub mod NormalFormLemmas
+pub mod PickLemmas
+pub mod StateColumnLemmas

@@ -1,11 +1,35 @@
 // Normal forms.
 ghost use Rattle.std.specs.Prelude.{◌≡◌, IfOk, length, nat_lt};
+ghost use Rattle.chv_agg.specs.OfKinds.{AllAreOf};
 ghost use Rattle.chv_types.specs.Order.{row_cmp};
-ghost use Rattle.chv_merge.specs.NormalForms.{key_cmp, normal_form, values_at};
+ghost use Rattle.chv_merge.specs.NormalForms.{key_cmp, normal_form, normal_form_of, values_at};
 
-use chv_types::{Block, Places, Row, compare};
-use std::alloc::AllocError;
+use crate::aggregating::aggregate;
+use chv_types::{Block, Engine, Kinds, Places, Row, compare};
+use std::alloc::{AllocError, Global};
 use std::cmp::Ordering;
+
+/// The rows of a block as a table of this engine keeps them: all of them in the order of the values at the places of `key`, and
+/// where these are the same, of all values; or those of each key as one, whose states are the merge of theirs, in the order of
+/// keys.
+///
+/// A place of no column is passed over. With no places all rows have the same key.
+pub fn normal_by(
+    alloc: Global,
+    engine: Engine,
+    kinds: &Kinds,
+    key: &Places,
+    block: Block,
+) -> Result<Block, AllocError>
+    requires rows { AllAreOf kinds.now block }
+    ensures rows { IfOk result (λ rows. rows ≡ normal_form_of engine kinds.now key.now block) }
+    ensures kinds { IfOk result (λ rows. AllAreOf kinds.now rows) }
+{
+    match engine {
+        Engine::MergeTree => normal(key, block),
+        Engine::Aggregating => aggregate(alloc, kinds, key, block),
+    }
+}
 
 /// All rows of a block, in the order of the values at the places of `key`, and where these are the same, of all values.
 ///
@@ -29,8 +53,8 @@ fn order(key: &Places, a: &Row, b: &Row) -> Ordering
     }
 }
 
-// The order of the values that two rows have at the places of a key.
-fn order_at(key: &[u32], a: &Row, b: &Row) -> Ordering
+/// The order of the values that two rows have at the places of a key.
+pub(crate) fn order_at(key: &[u32], a: &Row, b: &Row) -> Ordering
     ensures { result ≡ row_cmp (values_at key.now a.now) (values_at key.now b.now) }
 {
     let mut i = 0;

@@ -4,29 +4,24 @@ use Rattle.std.specs.List.{All, flat_map}
 use Rattle.std.proofs.lemmas.Bool.{cases_lt}
 use Rattle.std.proofs.lemmas.Grind.{flat_map-append}
 use Rattle.std.proofs.lemmas.List.{length-append, length-take, length-drop, take-append-drop, take-append-le, take-take, take_rest, drop-append-le, drop-drop, drop-take, drop_at}
-use Rattle.std.proofs.lemmas.List.Elements.{All-nil, All-cons, All-head, All-tail, All-take, All-drop}
-use Rattle.chv_block.specs.Spellings.{AreOf, AllAreOf}
+use Rattle.std.proofs.lemmas.List.Elements.{All-head, All-tail, All-take, All-drop}
+use Rattle.chv_agg.specs.Sets.{SetsWithin}
+use Rattle.chv_block.specs.Spellings.{AllAreOf}
 use Rattle.chv_commit.specs.Replays.{Span, AreRuns, span_of}
 use Rattle.chv_commit.specs.declared.part_row.PartRow.{PartRow}
 use Rattle.chv_commit.proofs.RunLemmas.{AreRuns-order}
-use Rattle.chv_merge.specs.NormalForms.{normal_form}
-use Rattle.chv_merge.proofs.NormalFormLemmas.{normal_form-IsPermutation, normal_form-permuted, normal_form-append, normal_form-length, normal_form-all}
-use Rattle.chv_types.specs.declared.kind.Kind.{Kind}
+use Rattle.chv_merge.proofs.EngineLemmas.{normal_form_of-again, normal_form_of-append, normal_form_of-kinds, normal_form_of-length, normal_form_of-some}
 use Rattle.chv_types.specs.declared.value.Value.{Value}
 use Rattle.chv_sip.specs.BlockIds.{SourceKey}
 use Rattle.chv_part.specs.Books.{TableForm, Entry, Book, MAX_ROWS, normal_rows, IsEntry, appended, IsLawfulBook, rows_in, part_rows}
 use Rattle.chv_part.specs.Naming.{entry_of}
 
--- rows in normal form are their own
-pub normal_form-normal_form : (key : List ℕ) (rows : List (List Value)) → normal_form key (normal_form key rows) ≡ normal_form key rows
-normal_form-normal_form key rows = normal_form-permuted key (normal_form key rows) rows (normal_form-IsPermutation key rows)
-
 -- the normal form of two lists may be taken of the first alone, and of what has the normal form of the second
-normal_form-first : (key : List ℕ) (a b c : List (List Value)) → normal_form key b ≡ normal_form key c → normal_form key (normal_form key a ++ b) ≡ normal_form key (a ++ c)
-normal_form-first key a b c same =
-    normal_form-append key (normal_form key a) b
-    ∙ ap₂ (λ (x y : List (List Value)). normal_form key (x ++ y)) (normal_form-normal_form key a) same
-    ∙ sym (normal_form-append key a c)
+normal_rows-first : (form : TableForm) (a b c : List (List Value)) → normal_rows form b ≡ normal_rows form c → normal_rows form (normal_rows form a ++ b) ≡ normal_rows form (a ++ c)
+normal_rows-first form a b c same =
+    normal_form_of-append form.engine form.kinds form.key (normal_rows form a) b
+    ∙ ap₂ (λ (x y : List (List Value)). normal_rows form (x ++ y)) (normal_form_of-again form.engine form.kinds form.key a) same
+    ∙ sym (normal_form_of-append form.engine form.kinds form.key a c)
 
 -- the rows of entries, one behind the other
 abbrev pub rows_of : List Entry → List (List Value)
@@ -73,38 +68,17 @@ part_rows-newest form entry book is =
     ∙ ap₂ (λ (k : ℕ) (l : List Entry). take k l) one (drop_at book.entries (entry ∷ []) n refl) in
     ap (λ (entries : List Entry). normal_rows form (rows_of entries)) alone ∙ ap (normal_rows form) (append-nil entry.rows) ∙ is.normal
 
--- rows of kinds are so one by one, and the other way round
-AllAreOf-each : (kinds : List Kind) (rows : List (List Value)) → AllAreOf kinds rows → All (AreOf kinds) rows
-AllAreOf-each kinds [] are = All-nil (AreOf kinds)
-AllAreOf-each kinds (row ∷ rows) are = All-cons (AreOf kinds) row rows are.0 (AllAreOf-each kinds rows are.1)
-
-AllAreOf-from_each : (kinds : List Kind) (rows : List (List Value)) → All (AreOf kinds) rows → AllAreOf kinds rows
-AllAreOf-from_each kinds [] each = tt
-AllAreOf-from_each kinds (row ∷ rows) each = (All-head (AreOf kinds) row rows each, AllAreOf-from_each kinds rows (All-tail (AreOf kinds) row rows each))
-
-pub AllAreOf-normal_form : (kinds : List Kind) (key : List ℕ) (rows : List (List Value)) → AllAreOf kinds rows → AllAreOf kinds (normal_form key rows)
-AllAreOf-normal_form kinds key rows are = AllAreOf-from_each kinds (normal_form key rows) (normal_form-all (AreOf kinds) key rows (AllAreOf-each kinds rows are))
-
-pub AllAreOf-append : (kinds : List Kind) (a b : List (List Value)) → AllAreOf kinds a → AllAreOf kinds b → AllAreOf kinds (a ++ b)
-AllAreOf-append kinds [] b of_a of_b = of_b
-AllAreOf-append kinds (row ∷ a) b of_a of_b = (of_a.0, AllAreOf-append kinds a b of_a.1 of_b)
-
 -- a block of one row or more arrives as an entry
-pub IsEntry-entry_of : (form : TableForm) (source : SourceKey) (block : List (List Value)) → AllAreOf form.kinds block → 1 ≤ length block → length block ≤ MAX_ROWS → IsEntry form (entry_of form source block)
-IsEntry-entry_of form source block are some most = record {
-  kinds_fit = AllAreOf-normal_form form.kinds form.key block are;
-  normal = normal_form-normal_form form.key block;
-  some = omega (arith, some, normal_form-length form.key block);
-  most = omega (arith, most, normal_form-length form.key block);
+pub IsEntry-entry_of : (form : TableForm) (source : SourceKey) (block : List (List Value)) → AllAreOf form.kinds block → SetsWithin (2 ^ 40) form.kinds block → 1 ≤ length block → length block ≤ MAX_ROWS
+    → IsEntry form (entry_of form source block)
+IsEntry-entry_of form source block are sets some most = record {
+  kinds_fit = normal_form_of-kinds form.engine form.kinds form.key (2 ^ 40) block (omega arith) are (λ engine. sets);
+  normal = normal_form_of-again form.engine form.kinds form.key block;
+  some = normal_form_of-some form.engine form.kinds form.key block some;
+  most = omega (arith, most, normal_form_of-length form.engine form.kinds form.key block);
 }
 
--- the rows of entries are of the kinds of their table, and no more than blocks have
-rows_of-kinds : (form : TableForm) (entries : List Entry) → All (IsEntry form) entries → AllAreOf form.kinds (rows_of entries)
-rows_of-kinds form [] are = tt
-rows_of-kinds form (entry ∷ entries) are =
-    AllAreOf-append form.kinds entry.rows (rows_of entries) (All-head (IsEntry form) entry entries are).kinds_fit
-    (rows_of-kinds form entries (All-tail (IsEntry form) entry entries are))
-
+-- entries have no more rows than so many blocks have
 length-rows_of : (form : TableForm) (entries : List Entry) → All (IsEntry form) entries → length (rows_of entries) ≤ MAX_ROWS * length entries
 length-rows_of form [] are = omega arith
 length-rows_of form (entry ∷ entries) are =
@@ -119,18 +93,13 @@ module _ (form : TableForm) (book : Book) (lawful : IsLawfulBook form book) wher
   range_entries : (lo hi : ℕ) → All (IsEntry form) (slice_range book.entries (lo - 1) hi)
   range_entries lo hi = All-take (IsEntry form) (hi - (lo - 1)) (drop (lo - 1) book.entries) (All-drop (IsEntry form) (lo - 1) book.entries lawful.entries)
 
-  -- the rows of a part are of the kinds of its table, and a number of 64 bits counts them
-  pub part_rows-kinds : (lo hi : ℕ) → AllAreOf form.kinds (part_rows form book lo hi)
-  part_rows-kinds lo hi =
-      let entries : List Entry = slice_range book.entries (lo - 1) hi in
-      AllAreOf-normal_form form.kinds form.key (rows_of entries) (rows_of-kinds form entries (range_entries lo hi))
-
+  -- a number of 64 bits counts the rows of a part
   pub length-part_rows : (lo hi : ℕ) → length (part_rows form book lo hi) < 2 ^ 64
   length-part_rows lo hi =
       let entries : List Entry = slice_range book.entries (lo - 1) hi in
       omega (
         arith,
-        normal_form-length form.key (rows_of entries),
+        normal_form_of-length form.engine form.kinds form.key (rows_of entries),
         length-rows_of form entries (range_entries lo hi),
         length-take (hi - (lo - 1)) (drop (lo - 1) book.entries),
         length-drop (lo - 1) book.entries,
@@ -142,27 +111,27 @@ abbrev pub rows_of_parts : TableForm → Book → List PartRow → List (List Va
 rows_of_parts form book layout = flat_map (λ (row : PartRow). part_rows form book row.lo row.hi) layout
 
 -- the rows of parts that cut the entries from one to another into runs have the normal form of the entries' rows
-rows_of_runs-normal_form : (form : TableForm) (book : Book) (first last : ℕ) (layout : List PartRow) → 1 ≤ first → AreRuns first last (map span_of layout)
+rows_of_runs-normal : (form : TableForm) (book : Book) (first last : ℕ) (layout : List PartRow) → 1 ≤ first → AreRuns first last (map span_of layout)
     → normal_rows form (rows_of_parts form book layout) ≡ normal_rows form (rows_of (slice_range book.entries (first - 1) last))
-rows_of_runs-normal_form form book first last [] low runs =
+rows_of_runs-normal form book first last [] low runs =
     let none : last - (first - 1) ≡ 0 = omega (arith, runs) in
     sym (ap (λ (n : ℕ). normal_rows form (rows_of (take n (drop (first - 1) book.entries)))) none)
-rows_of_runs-normal_form form book first last (row ∷ layout) low runs =
+rows_of_runs-normal form book first last (row ∷ layout) low runs =
     let ordered = AreRuns-order (row.hi + 1) last (map span_of layout) runs.2 in
     let on : row.hi + 1 - 1 ≡ row.hi = omega arith in
     let begins : row.lo - 1 ≡ first - 1 = ap (λ (n : ℕ). n - 1) runs.0 in
     let here : List Entry = slice_range book.entries (row.lo - 1) row.hi in
     let behind : List Entry = slice_range book.entries row.hi last in
-    normal_form-first form.key (rows_of here) (rows_of_parts form book layout) (rows_of behind)
-    (rows_of_runs-normal_form form book (row.hi + 1) last layout (omega arith) runs.2 ∙ ap (λ (n : ℕ). normal_rows form (rows_of (slice_range book.entries n last))) on)
+    normal_rows-first form (rows_of here) (rows_of_parts form book layout) (rows_of behind)
+    (rows_of_runs-normal form book (row.hi + 1) last layout (omega arith) runs.2 ∙ ap (λ (n : ℕ). normal_rows form (rows_of (slice_range book.entries n last))) on)
     ∙ ap (normal_rows form) (sym (flat_map-append (λ (entry : Entry). entry.rows) here behind))
     ∙ ap (λ (entries : List Entry). normal_rows form (rows_of entries))
     (slice_range-append book.entries (row.lo - 1) row.hi last (omega (arith, begins, runs.1)) (omega (arith, ordered)) ∙ ap (λ (n : ℕ). slice_range book.entries n last) begins)
 
 -- the rows of all live parts have the normal form of all rows
-pub rows_of_parts-normal_form : (form : TableForm) (book : Book) (layout : List PartRow) → AreRuns 1 (length book.entries) book.layout → book.layout ≡ map span_of layout
+pub rows_of_parts-normal : (form : TableForm) (book : Book) (layout : List PartRow) → AreRuns 1 (length book.entries) book.layout → book.layout ≡ map span_of layout
     → normal_rows form (rows_of_parts form book layout) ≡ normal_rows form (rows_in book)
-rows_of_parts-normal_form form book layout runs are =
+rows_of_parts-normal form book layout runs are =
     let first : 1 - 1 ≡ 0 = omega arith in
-    rows_of_runs-normal_form form book 1 (length book.entries) layout (omega arith) (subst (λ (spans : List Span). AreRuns 1 (length book.entries) spans) are runs)
+    rows_of_runs-normal form book 1 (length book.entries) layout (omega arith) (subst (λ (spans : List Span). AreRuns 1 (length book.entries) spans) are runs)
     ∙ ap (λ (entries : List Entry). normal_rows form (rows_of entries)) (take_rest book.entries (1 - 1) ∙ ap (λ (n : ℕ). drop n book.entries) first)

@@ -3,7 +3,7 @@ use Rattle.std.specs.Prelude.{ℕ, Bool, ◌≡◌, ◌+◌, ◌-◌, ◌≤◌,
 use Rattle.std.specs.List.{All, flat_map, list_any}
 use Rattle.chv_block.specs.Spellings.{AllAreOf}
 use Rattle.chv_commit.specs.Replays.{MAX_ENTRIES, Span, AreRuns}
-use Rattle.chv_merge.specs.NormalForms.{normal_form}
+use Rattle.chv_merge.specs.NormalForms.{normal_form_of}
 use Rattle.chv_part.specs.Arriving.{fresh, with_part}
 use Rattle.chv_sip.specs.BlockIds.{id_eq, last_ids}
 use Rattle.chv_sip.specs.declared.block_id.BlockId.{BlockId}
@@ -43,7 +43,7 @@ MAX_ROWS = 1048576
 
 -- rows as a table of this form keeps them
 abbrev pub normal_rows : TableForm → List (List Value) → List (List Value)
-normal_rows form rows = normal_form form.key rows
+normal_rows form rows = normal_form_of form.engine form.kinds form.key rows
 
 -- an entry of a table of this form: one row or more of its kinds, in normal form
 pub record IsEntry (form : TableForm) (entry : Entry) : Type 0 where

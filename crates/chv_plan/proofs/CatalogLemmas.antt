@@ -10,6 +10,7 @@ use Rattle.chv_ast.specs.declared.refusal.Refusal.{Refusal}
 use Rattle.chv_ast.specs.declared.statement.Select.{Select}
 use Rattle.chv_ast.specs.declared.statement.Statement.{Statement}
 use Rattle.chv_block.proofs.FitLemmas.{rows_fit}
+use Rattle.chv_agg.specs.Sets.{SetsWithin}
 use Rattle.chv_block.specs.Spellings.{AllAreOf}
 use Rattle.chv_catalog.proofs.StepLemmas.{and_then-Ok}
 use Rattle.chv_catalog.specs.Paths.{link_of, links_of, target_of}
@@ -32,7 +33,6 @@ use Rattle.chv_query.specs.Derived.{columns_at, def_at, divides_in, form_at, for
 use Rattle.chv_query.specs.Outputs.{filter_of}
 use Rattle.chv_query.specs.Queries.{Asked, asked, asked_of, divides, limit_of, sorts_of}
 use Rattle.chv_query.specs.Shapes.{shape_of}
-use Rattle.chv_query.proofs.GroupFits.{SetsWithin}
 use Rattle.chv_types.specs.Fits.{FitAll}
 use Rattle.chv_types.specs.declared.kind.Kind.{Kind}
 use Rattle.chv_types.specs.declared.value.Value.{Value}
@@ -107,8 +107,8 @@ all_short : (catalog : Catalog) (schema : List Accepted) → AreAccepted catalog
 all_short catalog [] are = All-nil IsShort
 all_short catalog (accepted ∷ schema) are =
     All-append IsShort (views_in accepted.definition) (views_of schema)
-    (short_views catalog accepted.statement accepted.definition are.1.defines are.1.formed)
-    (all_short (with_definition accepted.definition catalog) schema are.2)
+    (short_views catalog accepted.statement accepted.definition are.0.defines are.0.formed)
+    (all_short (with_definition accepted.definition catalog) schema are.1)
 
 pub view_short : (catalog : Catalog) → IsCatalog catalog → (view : ℕ) (def : ViewDef) → slice_get catalog.views view ≡ Some def → length def.name ≤ 64
 view_short catalog is view def at =

@@ -1,5 +1,4 @@
 pub mod BelowLemmas
-pub mod BlockLemmas
 pub mod BoundLemmas
 pub mod CatalogLemmas
 pub mod FeedLemmas

@@ -1,6 +1,7 @@
 -- Blocks along paths, and what is held of them.
 use Rattle.std.specs.Prelude.{ℕ, ◌≡◌, ◌≤◌, ◌^◌, ◌∷◌, ◌++◌, [], false, true, not, List, length, map}
 use Rattle.std.specs.List.{filter, list_any}
+use Rattle.chv_agg.specs.Sets.{SetsWithin}
 use Rattle.chv_ast.specs.declared.refusal.Refusal.{Refusal}
 use Rattle.chv_ast.specs.declared.refusal.Refusal.TheVariants.{DivisionByZero}
 use Rattle.chv_block.specs.Spellings.{AllAreOf}
@@ -12,7 +13,6 @@ use Rattle.chv_catalog.specs.declared.link.Link.{Link}
 use Rattle.chv_group.specs.Groups.{is_empty}
 use Rattle.chv_part.specs.Books.{MAX_ROWS, TableForm, normal_rows}
 use Rattle.chv_part.specs.Parts.{part_file}
-use Rattle.chv_query.proofs.GroupFits.{SetsWithin}
 use Rattle.chv_query.specs.Derived.{derived, divides_along, form_at}
 use Rattle.chv_query.specs.Plans.{Delivery, delivery_along}
 use Rattle.chv_sip.specs.BlockIds.{SourceKey, source_id}

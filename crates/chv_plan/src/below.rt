@@ -15,7 +15,7 @@ use crate::ids::id_along;
 use crate::views::BoundSchema;
 use chv_ast::Refusal;
 use chv_catalog::{Schema, StatementFault};
-use chv_merge::normal;
+use chv_merge::normal_by;
 use chv_part::encode_part;
 use chv_query::{BlockFault, run_view};
 use chv_sip::BlockId;
@@ -142,7 +142,8 @@ pub fn delivery_to(
     requires rows { AllAreOf kinds.now rows }
     ensures { IfOk result (λ held. IsHeld (form_at schema.now.catalog table) table id rows held) }
 {
-    let rows = normal(&schema.table_def(table).key, rows)?;
+    let def = schema.table_def(table);
+    let rows = normal_by(alloc, def.engine, kinds, &def.key, rows)?;
     // Whether the block is skipped is decided as it is delivered, and no delivery takes memory.
     let encoded = encode_part(alloc, kinds, &rows)?;
     Ok(Delivery {

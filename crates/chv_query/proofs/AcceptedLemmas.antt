@@ -19,7 +19,7 @@ use Rattle.chv_catalog.specs.declared.view_def.ViewDef.{ViewDef}
 use Rattle.chv_print.specs.StatementTexts.{statement_text, table_text, view_text}
 use Rattle.chv_types.specs.Names.{place_of}
 use Rattle.chv_types.specs.declared.table.Column.{Column}
-use Rattle.chv_query.specs.Accepted.{Accepted, AreAccepted, Defines, IsAccepted, IsCatalog, IsSchema, catalog_of, is_built_create, tables_in, tables_of, views_in, views_of}
+use Rattle.chv_query.specs.Accepted.{Accepted, AreAccepted, Defines, IsAccepted, IsCatalog, IsSchema, catalog_of, tables_in, tables_of, views_in, views_of}
 use Rattle.chv_query.specs.Definitions.{defined}
 use Rattle.chv_query.specs.Views.{defined_view}
 use Rattle.chv_query.proofs.DefinitionLemmas.{passed}
@@ -146,8 +146,8 @@ pub all_made : (catalog : Catalog) (schema : List Accepted) → AreAccepted cata
 all_made catalog [] are = All-nil IsMade
 all_made catalog (accepted ∷ schema) are =
     All-append IsMade (tables_in accepted.definition) (tables_of schema)
-    (made_columns catalog accepted.statement accepted.definition are.1.defines are.1.formed)
-    (all_made (with_definition accepted.definition catalog) schema are.2)
+    (made_columns catalog accepted.statement accepted.definition are.0.defines are.0.formed)
+    (all_made (with_definition accepted.definition catalog) schema are.1)
 
 -- and so has each table of a catalog
 pub catalog_made : (catalog : Catalog) → IsCatalog catalog → All IsMade catalog.tables
@@ -169,19 +169,18 @@ with_schema-cons catalog (Table def) schema = ap (λ (t : List TableDef). record
 with_schema-cons catalog (View def) schema = ap (λ (v : List ViewDef). record { tables = catalog.tables ++ tables_of schema; views = v }) (append_assoc catalog.views (def ∷ []) (views_of schema))
 
 -- a statement is accepted beside all those before it
-pub AreAccepted-push : (catalog : Catalog) (schema : List Accepted) (accepted : Accepted) → AreAccepted catalog schema → is_built_create accepted.statement ≡ true → IsAccepted (with_schema catalog schema) accepted
+pub AreAccepted-push : (catalog : Catalog) (schema : List Accepted) (accepted : Accepted) → AreAccepted catalog schema → IsAccepted (with_schema catalog schema) accepted
     → AreAccepted catalog (schema ++ accepted ∷ [])
-AreAccepted-push catalog [] accepted are built is =
-    (built, subst (λ (c : Catalog). IsAccepted c accepted) (with_schema-nil catalog) is, tt)
-AreAccepted-push catalog (first ∷ schema) accepted are built is = (
+AreAccepted-push catalog [] accepted are is =
+    (subst (λ (c : Catalog). IsAccepted c accepted) (with_schema-nil catalog) is, tt)
+AreAccepted-push catalog (first ∷ schema) accepted are is = (
   are.0,
-  are.1,
-  AreAccepted-push (with_definition first.definition catalog) schema accepted are.2 built
+  AreAccepted-push (with_definition first.definition catalog) schema accepted are.1
       (subst (λ (c : Catalog). IsAccepted c accepted) (sym (with_schema-cons catalog first.definition schema)) is),
 )
 
 -- so is it behind a schema
-pub IsSchema-push : (schema : List Accepted) (accepted : Accepted) → IsSchema schema → is_built_create accepted.statement ≡ true → IsAccepted (catalog_of schema) accepted → IsSchema (schema ++ accepted ∷ [])
+pub IsSchema-push : (schema : List Accepted) (accepted : Accepted) → IsSchema schema → IsAccepted (catalog_of schema) accepted → IsSchema (schema ++ accepted ∷ [])
 IsSchema-push schema accepted = AreAccepted-push no_definitions schema accepted
 
 -- its table, where it is one, is the last

@@ -82,7 +82,7 @@ tables_behind : (catalog : Catalog) (schema : List Accepted) → AreAccepted cat
 tables_behind catalog [] are all = subst (λ (c : Catalog). All IsAptTable c.tables) (sym (with_schema-nil catalog)) all
 tables_behind catalog (accepted ∷ schema) are all =
     subst (λ (c : Catalog). All IsAptTable c.tables) (with_schema-cons catalog accepted.definition schema)
-    (tables_behind (with_definition accepted.definition catalog) schema are.2 (apt-more accepted.definition catalog accepted.statement are.1.defines all))
+    (tables_behind (with_definition accepted.definition catalog) schema are.1 (apt-more accepted.definition catalog accepted.statement are.0.defines all))
 
 -- so it is in each table of a schema
 pub schema-apt : (schema : List Accepted) → IsSchema schema → All IsAptTable (catalog_of schema).tables

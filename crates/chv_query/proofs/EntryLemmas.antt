@@ -1,6 +1,7 @@
 -- The entry of an arrival is one of its table.
 use Rattle.std.proofs.Common.{◌≡◌, ◌∙◌, ◌≤◌, ◌-◌, ◌^◌, ℕ, List, [], ◌∷◌, length, Some, slice_get, refl, sym, ap, subst, arith}
 use Rattle.std.specs.List.{All}
+use Rattle.chv_agg.specs.Sets.{SetsWithin}
 use Rattle.chv_block.specs.Spellings.{AllAreOf}
 use Rattle.chv_catalog.specs.Paths.{IsPath, end_of, links_of, target_of}
 use Rattle.chv_catalog.specs.Schemas.{Catalog, kinds_of}
@@ -11,7 +12,6 @@ use Rattle.chv_part.specs.Books.{IsEntry, MAX_ROWS, TableForm, normal_rows}
 use Rattle.chv_part.specs.Forms.{form_of}
 use Rattle.chv_types.specs.declared.value.Value.{Value}
 use Rattle.chv_query.proofs.AptLemmas.{IsAptTable, schema-apt}
-use Rattle.chv_query.proofs.GroupFits.{SetsWithin}
 use Rattle.chv_query.proofs.GrowthLemmas.{All-at, IsViewIn, linked, schema-views}
 use Rattle.chv_query.proofs.ViewFits.{SetsWithin-small, viewed-fits}
 use Rattle.chv_query.specs.Accepted.{Accepted, IsSchema, catalog_of}
@@ -61,7 +61,7 @@ module _ (catalog : Catalog) (views : All (IsViewIn catalog) catalog.views) (apt
 -- rows of a table's columns are those of an entry, under any id
 entry_rows : (def : TableDef) (a : Arrival) (rows : List (List Value)) → a.rows ≡ normal_rows (form_of def) rows → AreRowsOf def rows → 1 ≤ length rows → IsEntry (form_of def) (entry_in a)
 entry_rows def a rows is are some =
-    let entry = IsEntry-entry_of (form_of def) a.contribution.source rows are.kinds_fit some are.most in
+    let entry = IsEntry-entry_of (form_of def) a.contribution.source rows are.kinds_fit are.sets some are.most in
     let here : IsEntry (form_of def) (record { id = a.id; rows = normal_rows (form_of def) rows }) =
     record { kinds_fit = entry.kinds_fit; normal = entry.normal; some = entry.some; most = entry.most } in
     subst (λ (r : List (List Value)). IsEntry (form_of def) (record { id = a.id; rows = r })) (sym is) here

@@ -4,11 +4,11 @@ use Rattle.std.proofs.lemmas.List.Elements.{All-contains, All-cons, All-filter, 
 use Rattle.std.specs.List.{All, filter}
 use Rattle.std.specs.Option.{IfSome, option_and_then, unwrap_or}
 use Rattle.chv_agg.proofs.StateFrontLemmas.{state_in-spelled}
+use Rattle.chv_agg.specs.Sets.{SetsWithin, set_in, total_of}
 use Rattle.chv_agg.specs.StateBytes.{state_bytes}
-use Rattle.chv_agg.specs.States.{FitsState, value_of}
+use Rattle.chv_agg.specs.States.{FitsState, set_size, value_of}
 use Rattle.chv_agg.specs.declared.any_agg.AnyAgg.{AnyAgg}
 use Rattle.chv_agg.specs.declared.any_agg.AnyAgg.TheVariants.{Count, SumU, SumI, Least, Greatest, Uniq}
-use Rattle.chv_agg.proofs.JoinFits.{set_size}
 use Rattle.chv_block.proofs.DefaultLemmas.{default_kind}
 use Rattle.chv_block.specs.Spellings.{AllAreOf, AreOf, IsOf}
 use Rattle.chv_catalog.specs.Checks.{is_state}
@@ -18,7 +18,7 @@ use Rattle.chv_expr.specs.Terms.{Term, value_at}
 use Rattle.chv_group.specs.Groups.{TakesArgument, argument_at, call_state, gives_state, grouped, inputs_of, is_empty, results, row_for, state_value}
 use Rattle.chv_group.specs.declared.call.AggCall.{AggCall}
 use Rattle.chv_group.specs.declared.call.Keyed.{Keyed}
-use Rattle.chv_query.proofs.SetSums.{call_state-fits, call_state-size, input_size, length-mapped, members-length, set_in, total, total-filter, total-groups, total-map, total-more, total-none, total-same}
+use Rattle.chv_query.proofs.SetSums.{call_state-fits, call_state-size, input_size, length-mapped, members-length, total_of-filter, total_of-groups, total_of-map, total_of-more, total_of-none, total_of-same}
 use Rattle.chv_query.proofs.ShapeTerms.{AllPlaced, term_kinds}
 use Rattle.chv_query.specs.Calls.{call_kind}
 use Rattle.chv_query.specs.Results.{arranged, outcome, output_row, passes}
@@ -40,10 +40,6 @@ use Rattle.chv_types.specs.declared.kind.Scalar.TheVariants as scalar
 use Rattle.chv_types.specs.declared.table.Column.{Column}
 use Rattle.chv_types.specs.declared.value.Value.{Value}
 use Rattle.chv_types.specs.declared.value.Value.TheVariants.{State}
-
--- the states of each column have sets of so many values together at most
-abbrev pub SetsWithin : ℕ → List Kind → List (List Value) → Type 0
-SetsWithin most kinds rows = (place : ℕ) (of : Kind) → slice_get kinds place ≡ Some of → total (λ row. set_in of (value_at place row)) rows ≤ most
 
 -- states are those of a function that has a result over the values
 abbrev pub IsApt : Kind → Type 0
@@ -199,21 +195,21 @@ module _ (condition : Option Term) (terms : List Term) where
       (made-all R P f rows (All-tail R row rows all))
 
   total_more : (f : List Value → ℕ) (n : ℕ) (row : List Value) → ((values : List Value) → AllGive row terms values → f values ≤ n) → (one rest : List (List Value)) → IsMade terms row one
-      → total f (one ++ rest) ≤ n + total f rest
+      → total_of f (one ++ rest) ≤ n + total_of f rest
   total_more f n row less [] rest is = omega arith
   total_more f n row less (values ∷ []) rest is = omega (arith, less values is)
   total_more f n row less (values ∷ (more ∷ rows)) rest is = absurd is
 
-  made-total : (f g : List Value → ℕ) → ((row values : List Value) → AllGive row terms values → f values ≤ g row) → (rows : List (List Value)) → total f (made rows) ≤ total g rows
+  made-total : (f g : List Value → ℕ) → ((row values : List Value) → AllGive row terms values → f values ≤ g row) → (rows : List (List Value)) → total_of f (made rows) ≤ total_of g rows
   made-total f g less [] = omega arith
   made-total f g less (row ∷ rows) =
       omega (arith, total_more f (g row) row (λ values gives. less row values gives) (unwrap_or (outcome condition terms row) []) (made rows) (outcome-made condition terms row), made-total f g less rows)
 
   -- the states of a term have no larger sets than those of a column
   pub state-total : (kinds : List Kind) (n place : ℕ) (term : Term) (most : ℕ) → slice_get (drop n terms) place ≡ Some term → IsForm kinds term → (rows : List (List Value)) → SetsWithin most kinds rows
-      → total (λ values. set_in term.kind (value_at place (drop n values))) (made rows) ≤ most
+      → total_of (λ values. set_in term.kind (value_at place (drop n values))) (made rows) ≤ most
   state-total kinds n place term most at (inl plain) rows within =
-      omega (arith, total-none (λ (values : List Value). set_in term.kind (value_at place (drop n values))) (λ values. set_in-plain term.kind (value_at place (drop n values)) plain) (made rows))
+      omega (arith, total_of-none (λ (values : List Value). set_in term.kind (value_at place (drop n values))) (λ values. set_in-plain term.kind (value_at place (drop n values)) plain) (made rows))
   state-total kinds n place term most at (inr column) rows within =
       let same : (row values : List Value) → AllGive row terms values → set_in term.kind (value_at place (drop n values)) ≤ set_in term.kind (value_at column.0 row) =
       λ row values gives.
@@ -283,7 +279,7 @@ module _ (most : ℕ) (few : most < 2 ^ 64) where
 
   pub record IsFedAt (call : AggCall) (place : ℕ) (inputs : List Keyed) : Type 0 where
     pub takes : All (λ (input : Keyed). TakesArgument call (argument_at place input)) inputs
-    pub size : total (size_at call place) inputs ≤ most
+    pub size : total_of (size_at call place) inputs ≤ most
     pub some : is_some (kind_over call.agg call.arg) ≡ true
 
   abbrev pub AllFedAt : ℕ → List AggCall → List Keyed → Type 0
@@ -295,7 +291,7 @@ module _ (most : ℕ) (few : most < 2 ^ 64) where
   AllFedAt-filter p place (call ∷ calls) inputs fed = (
     record {
       takes = All-filter p (λ (input : Keyed). TakesArgument call (argument_at place input)) inputs fed.0.takes;
-      size = omega (arith, total-filter p (size_at call place) inputs, fed.0.size);
+      size = omega (arith, total_of-filter p (size_at call place) inputs, fed.0.size);
       some = fed.0.some;
     },
     AllFedAt-filter p (place + 1) calls inputs fed.1,
@@ -311,7 +307,7 @@ module _ (most : ℕ) (few : most < 2 ^ 64) where
   fits_at : (call : AggCall) (place : ℕ) (inputs : List Keyed) → IsFedAt call place inputs → FitsState call.agg call.arg (call_state call (map (argument_at place) inputs))
   fits_at call place inputs fed =
       call_state-fits call (map (argument_at place) inputs) (All-map (TakesArgument call) (argument_at place) inputs fed.takes)
-      (omega (arith, few, fed.size, total-map (input_size call) (argument_at place) inputs))
+      (omega (arith, few, fed.size, total_of-map (input_size call) (argument_at place) inputs))
 
   results-are : (place : ℕ) (calls : List AggCall) (inputs : List Keyed) → AllFedAt place calls inputs → AllOf IsOf (map call_kind calls) (results place calls inputs)
   results-are place [] inputs fed = tt
@@ -319,30 +315,30 @@ module _ (most : ℕ) (few : most < 2 ^ 64) where
       (state_value-is call (call_state call (map (argument_at place) inputs)) fed.0.some (fits_at call place inputs fed.0), results-are (place + 1) calls inputs fed.1)
 
   result-size : (place : ℕ) (calls : List AggCall) (inputs : List Keyed) (i : ℕ) (call : AggCall) → AllFedAt place calls inputs → slice_get calls i ≡ Some call
-      → set_in (call_kind call) (value_at i (results place calls inputs)) ≤ total (size_at call (place + i)) inputs
+      → set_in (call_kind call) (value_at i (results place calls inputs)) ≤ total_of (size_at call (place + i)) inputs
   result-size place [] inputs i call fed at = absurd (cc at)
   result-size place (first ∷ calls) inputs zero call fed at =
       let same : first ≡ call = cc at in
       let here : place ≡ place + 0 = omega arith in
       let state = call_state first (map (argument_at place) inputs) in
-      let less : set_in (call_kind first) (state_value first state) ≤ total (size_at first place) inputs =
-      omega (arith, state_value-size first state (fits_at first place inputs fed.0), call_state-size first (map (argument_at place) inputs), total-map (input_size first) (argument_at place) inputs) in
-      subst (λ (c : AggCall). set_in (call_kind c) (state_value first state) ≤ total (size_at c (place + 0)) inputs) same
-      (subst (λ (n : ℕ). set_in (call_kind first) (state_value first state) ≤ total (size_at first n) inputs) here less)
+      let less : set_in (call_kind first) (state_value first state) ≤ total_of (size_at first place) inputs =
+      omega (arith, state_value-size first state (fits_at first place inputs fed.0), call_state-size first (map (argument_at place) inputs), total_of-map (input_size first) (argument_at place) inputs) in
+      subst (λ (c : AggCall). set_in (call_kind c) (state_value first state) ≤ total_of (size_at c (place + 0)) inputs) same
+      (subst (λ (n : ℕ). set_in (call_kind first) (state_value first state) ≤ total_of (size_at first n) inputs) here less)
   result-size place (first ∷ calls) inputs (suc i) call fed at =
       let next : place + 1 + i ≡ place + suc i = omega arith in
-      subst (λ (n : ℕ). set_in (call_kind call) (value_at i (results (place + 1) calls inputs)) ≤ total (size_at call n) inputs) next (result-size (place + 1) calls inputs i call fed.1 at)
+      subst (λ (n : ℕ). set_in (call_kind call) (value_at i (results (place + 1) calls inputs)) ≤ total_of (size_at call n) inputs) next (result-size (place + 1) calls inputs i call fed.1 at)
 
   size-all : (place : ℕ) (calls : List AggCall) (inputs : List Keyed) (i : ℕ) (call : AggCall) → AllFedAt place calls inputs → slice_get calls i ≡ Some call
-      → total (size_at call (place + i)) inputs ≤ most
+      → total_of (size_at call (place + i)) inputs ≤ most
   size-all place [] inputs i call fed at = absurd (cc at)
   size-all place (first ∷ calls) inputs zero call fed at =
       let same : first ≡ call = cc at in
       let here : place ≡ place + 0 = omega arith in
-      subst (λ (c : AggCall). total (size_at c (place + 0)) inputs ≤ most) same (subst (λ (n : ℕ). total (size_at first n) inputs ≤ most) here fed.0.size)
+      subst (λ (c : AggCall). total_of (size_at c (place + 0)) inputs ≤ most) same (subst (λ (n : ℕ). total_of (size_at first n) inputs ≤ most) here fed.0.size)
   size-all place (first ∷ calls) inputs (suc i) call fed at =
       let next : place + 1 + i ≡ place + suc i = omega arith in
-      subst (λ (n : ℕ). total (size_at call n) inputs ≤ most) next (size-all (place + 1) calls inputs i call fed.1 at)
+      subst (λ (n : ℕ). total_of (size_at call n) inputs ≤ most) next (size-all (place + 1) calls inputs i call fed.1 at)
 
   -- a place is that of a key, or of what a call gives
   place_is : (keys : List Term) (calls : List AggCall) (place : ℕ) (of : Kind) → All (λ (term : Term). is_state term.kind ≡ false) keys
@@ -382,25 +378,25 @@ module _ (most : ℕ) (few : most < 2 ^ 64) where
         (λ key is. AllOf-append (term_kinds keys) (map call_kind calls) key (results 0 calls (inputs_of key inputs)) is (results-are 0 calls (inputs_of key inputs) (fed_of key))) found of)
 
     within_place : (place : ℕ) (k : Kind) → IsPlain k ⊎ ((i : ℕ) × (call : AggCall) × (slice_get calls i ≡ Some call) × (call_kind call ≡ k) × (place ≡ length keys + i))
-        → total (λ row. set_in k (value_at place row)) (map (row_for calls inputs) found) ≤ most
+        → total_of (λ row. set_in k (value_at place row)) (map (row_for calls inputs) found) ≤ most
     within_place place k (inl none) =
-        omega (arith, total-none (λ row. set_in k (value_at place row)) (λ row. set_in-plain k (value_at place row) none) (map (row_for calls inputs) found))
+        omega (arith, total_of-none (λ row. set_in k (value_at place row)) (λ row. set_in-plain k (value_at place row) none) (map (row_for calls inputs) found))
     within_place place k (inr at) =
         let i = at.0 in
         let call = at.1 in
         let f : Keyed → ℕ = size_at call (0 + i) in
-        let each : (key : List Value) → AllOf IsOf (term_kinds keys) key → set_in k (value_at place (row_for calls inputs key)) ≤ total f (inputs_of key inputs) =
+        let each : (key : List Value) → AllOf IsOf (term_kinds keys) key → set_in k (value_at place (row_for calls inputs key)) ≤ total_of f (inputs_of key inputs) =
         λ key is.
         let rest = results 0 calls (inputs_of key inputs) in
         let here : value_at place (key ++ rest) ≡ value_at i rest =
         ap (λ (n : ℕ). value_at n (key ++ rest)) at.4 ∙ value_at-behind key rest (length keys) i (AllOf-length keys key is) in
         let less = result-size 0 calls (inputs_of key inputs) i call (fed_of key) at.2 in
-        subst (λ (j : Kind). set_in j (value_at place (key ++ rest)) ≤ total f (inputs_of key inputs)) at.3 (omega (arith, less, ap (set_in (call_kind call)) here)) in
+        subst (λ (j : Kind). set_in j (value_at place (key ++ rest)) ≤ total_of f (inputs_of key inputs)) at.3 (omega (arith, less, ap (set_in (call_kind call)) here)) in
         omega (
           arith,
-          total-map (λ row. set_in k (value_at place row)) (row_for calls inputs) found,
-          total-more (AllOf IsOf (term_kinds keys)) (λ key. set_in k (value_at place (row_for calls inputs key))) (λ key. total f (inputs_of key inputs)) each found of,
-          total-groups f found inputs rise,
+          total_of-map (λ row. set_in k (value_at place row)) (row_for calls inputs) found,
+          total_of-more (AllOf IsOf (term_kinds keys)) (λ key. set_in k (value_at place (row_for calls inputs key))) (λ key. total_of f (inputs_of key inputs)) each found of,
+          total_of-groups f found inputs rise,
           size-all 0 calls inputs i call fed at.2,
         )
 
@@ -437,8 +433,8 @@ module _ (most : ℕ) (few : most < 2 ^ 64) where
         let found = arranged-at kinds places columns q of placed at in
         omega (
           arith,
-          total-map (λ row. set_in of (value_at q row)) (arranged places) rows,
-          total-same (λ row. set_in of (value_at q (arranged places row))) (λ row. set_in of (value_at found.0 row)) (λ row. ap (set_in of) (found.2 row)) rows,
+          total_of-map (λ row. set_in of (value_at q row)) (arranged places) rows,
+          total_of-same (λ row. set_in of (value_at q (arranged places row))) (λ row. set_in of (value_at found.0 row)) (λ row. ap (set_in of) (found.2 row)) rows,
           well.1 found.0 of found.1,
         )),
   )

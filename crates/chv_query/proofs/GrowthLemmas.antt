@@ -173,8 +173,8 @@ views_behind : (catalog : Catalog) (schema : List Accepted) → AreAccepted cata
 views_behind catalog [] are once all = subst (λ (c : Catalog). All (IsViewIn c) c.views) (sym (with_schema-nil catalog)) all
 views_behind catalog (accepted ∷ schema) are once all =
     subst (λ (c : Catalog). All (IsViewIn c) c.views) (with_schema-cons catalog accepted.definition schema)
-    (views_behind (with_definition accepted.definition catalog) schema are.2 (once-more accepted.definition catalog accepted.statement are.1.defines once)
-    (views-more accepted.definition catalog accepted refl are.1.defines once all))
+    (views_behind (with_definition accepted.definition catalog) schema are.1 (once-more accepted.definition catalog accepted.statement are.0.defines once)
+    (views-more accepted.definition catalog accepted refl are.0.defines once all))
 
 -- each view of a schema is one of its catalog
 pub schema-views : (schema : List Accepted) → IsSchema schema → All (IsViewIn (catalog_of schema)) (catalog_of schema).views
@@ -313,7 +313,7 @@ module _ (definition : Definition) (catalog : Catalog) (views : All (IsViewIn ca
 -- the schema in front of its last statement is one
 pub IsSchema-front : (schema : List Accepted) (accepted : Accepted) (catalog : Catalog) → AreAccepted catalog (schema ++ accepted ∷ []) → AreAccepted catalog schema
 IsSchema-front [] accepted catalog are = tt
-IsSchema-front (first ∷ schema) accepted catalog are = (are.0, are.1, IsSchema-front schema accepted (with_definition first.definition catalog) are.2)
+IsSchema-front (first ∷ schema) accepted catalog are = (are.0, IsSchema-front schema accepted (with_definition first.definition catalog) are.1)
 
 -- an arrival stays one where a statement is accepted
 pub IsArrival-more : (schema : List Accepted) (accepted : Accepted) → IsSchema (schema ++ accepted ∷ []) → (table : ℕ) (a : Arrival) → IsArrival (catalog_of schema) table a

@@ -14,6 +14,7 @@ pub mod JoinLemmas
 pub mod KeyLemmas
 pub mod LiteralLemmas
 pub mod LiteralRowLemmas
+pub mod MergeBlindLaws
 pub mod NameLemmas
 pub mod OutputLemmas
 pub mod QueryFits

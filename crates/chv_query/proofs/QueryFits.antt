@@ -6,6 +6,7 @@ use Rattle.std.proofs.lemmas.Option.{slice_get-map}
 use Rattle.std.specs.List.{All}
 use Rattle.std.specs.Option.{IfSome}
 use Rattle.std.specs.Prelude.{IfOk}
+use Rattle.chv_agg.specs.Sets.{SetsWithin, set_in, total_of}
 use Rattle.chv_ast.specs.declared.expr.Expr.{Expr}
 use Rattle.chv_ast.specs.declared.statement.Select.{Select}
 use Rattle.chv_block.proofs.FitLemmas.{value_fits}
@@ -19,9 +20,9 @@ use Rattle.chv_expr.specs.Terms.{Term, column_at, constant, term_of, value_at}
 use Rattle.chv_group.specs.Groups.{TakesArgument, argument_at, grouped, takes_states}
 use Rattle.chv_group.specs.declared.call.AggCall.{AggCall}
 use Rattle.chv_group.specs.declared.call.Keyed.{Keyed}
-use Rattle.chv_query.proofs.GroupFits.{AllAreOf-from, AllAreOf-to, AllFedAt, AllGive, AllGive-drop, AllGive-typed, AllOf-take, IsApt, IsFedAt, IsWell, SetsWithin, arranged-well, column_kinds, grouped-length, grouped-well, made, made-all, made-length, plain_apt, size_at, slice_get-mapped, state-total, value_at-gives}
+use Rattle.chv_query.proofs.GroupFits.{AllAreOf-from, AllAreOf-to, AllFedAt, AllGive, AllGive-drop, AllGive-typed, AllOf-take, IsApt, IsFedAt, IsWell, arranged-well, column_kinds, grouped-length, grouped-well, made, made-all, made-length, plain_apt, size_at, slice_get-mapped, state-total, value_at-gives}
 use Rattle.chv_query.proofs.GrowthLemmas.{All-at}
-use Rattle.chv_query.proofs.SetSums.{input_size, input_size-state, input_size-value, length-mapped, set_in, total, total-length, total-map, total-same}
+use Rattle.chv_query.proofs.SetSums.{input_size, input_size-state, input_size-value, length-mapped, total_of-length, total_of-map, total_of-same}
 use Rattle.chv_query.proofs.ShapeTerms.{AllOn, IsLaid, IsLaidOut, IsOn, shape_of-laid, term_kinds}
 use Rattle.chv_query.proofs.TakesLemmas.{AreFed, FeedsShape, IsFed, ok_same, shape_of-feeds}
 use Rattle.chv_query.specs.Outputs.{filter_of}
@@ -68,7 +69,7 @@ module _ (kinds : List Kind) (apt : All IsApt kinds) (most : ℕ) (few : most < 
     made-are,
     (λ place of at.
         let found = slice_get-mapped (λ (term : Term). term.kind) terms place of at in
-        subst (λ (k : Kind). total (λ values. set_in k (value_at place values)) (made condition terms rows) ≤ most) found.2
+        subst (λ (k : Kind). total_of (λ values. set_in k (value_at place values)) (made condition terms rows) ≤ most) found.2
         (state-total condition terms kinds 0 place found.0 most found.1 (All-at (IsForm kinds) terms place found.0 formed found.1) rows within)),
   )
 
@@ -100,32 +101,32 @@ module _ (kinds : List Kind) (apt : All IsApt kinds) (most : ℕ) (few : most < 
     abbrev arg_form : (term : Term) (place : ℕ) → slice_get args place ≡ Some term → IsForm kinds term
     arg_form term place at = All-at (IsForm kinds) args place term (All-drop (IsForm kinds) groups.keys terms formed) at
 
-    size-values : (call : AggCall) (place : ℕ) → takes_states call.form ≡ false → total (size_at most few call place) inputs ≤ most
+    size-values : (call : AggCall) (place : ℕ) → takes_states call.form ≡ false → total_of (size_at most few call place) inputs ≤ most
     size-values call place values =
         omega (
           arith,
-          total-length (size_at most few call place) (λ input. input_size-value call (argument_at place input) values) inputs,
+          total_of-length (size_at most few call place) (λ input. input_size-value call (argument_at place input) values) inputs,
           length-mapped (keyed groups.keys) (made condition terms rows),
           made-length condition terms rows,
           short,
         )
 
     size-states : (call : AggCall) (term : Term) (place : ℕ) → slice_get args place ≡ Some term → takes_states call.form ≡ true → term.kind ≡ kind.State call.agg call.arg
-        → total (size_at most few call place) inputs ≤ most
+        → total_of (size_at most few call place) inputs ≤ most
     size-states call term place at states is =
         omega (
           arith,
-          total-map (size_at most few call place) (keyed groups.keys) (made condition terms rows),
-          total-same (λ values. input_size call (value_at place (drop groups.keys values))) (λ values. set_in (kind.State call.agg call.arg) (value_at place (drop groups.keys values)))
+          total_of-map (size_at most few call place) (keyed groups.keys) (made condition terms rows),
+          total_of-same (λ values. input_size call (value_at place (drop groups.keys values))) (λ values. set_in (kind.State call.agg call.arg) (value_at place (drop groups.keys values)))
               (λ values. input_size-state call (value_at place (drop groups.keys values)) states) (made condition terms rows),
-          subst (λ (k : Kind). total (λ values. set_in k (value_at place (drop groups.keys values))) (made condition terms rows) ≤ most) is
+          subst (λ (k : Kind). total_of (λ values. set_in k (value_at place (drop groups.keys values))) (made condition terms rows) ≤ most) is
               (state-total condition terms kinds groups.keys place term most at (arg_form term place at) rows within),
         )
 
     call_fed : (call : AggCall) (term : Term) (place : ℕ) → slice_get args place ≡ Some term → IsOn call term → IsFed call term → IsFedAt most few call place inputs
     call_fed call term place at on fed = record { takes = arg_takes call term place at fed; size = size (takes_states call.form) refl; some = some (takes_states call.form) refl }
       where
-        size : (states : Bool) → takes_states call.form ≡ states → total (size_at most few call place) inputs ≤ most
+        size : (states : Bool) → takes_states call.form ≡ states → total_of (size_at most few call place) inputs ≤ most
         size true e = size-states call term place at e (on.0 e)
         size false e = size-values call place e
 

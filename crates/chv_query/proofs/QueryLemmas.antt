@@ -1,9 +1,12 @@
 -- A bound query makes of each row what is asked.
-use Rattle.std.proofs.Common.{◌≡◌, ℕ, Bool, true, false, if◌then◌else◌, List, [], ◌∷◌, map, Option, None, Some, Ok, refl}
+use Rattle.std.proofs.Common.{◌≡◌, ℕ, Bool, true, false, if◌then◌else◌, List, [], ◌∷◌, map, Option, None, Some, Ok, refl, ap, ◌∙◌}
 use Rattle.std.proofs.lemmas.List.Elements.{All-nil, All-cons}
 use Rattle.std.specs.List.{All}
 use Rattle.std.specs.Option.{IfSome, option_and_then, option_map}
+use Rattle.chv_ast.specs.declared.refusal.Refusal.TheVariants.{NeedsFinal}
 use Rattle.chv_ast.specs.declared.statement.Select.{Select}
+use Rattle.chv_catalog.proofs.StepLemmas.{and_then-Ok, refuse_if-Ok}
+use Rattle.chv_catalog.specs.Schemas.{Catalog}
 use Rattle.chv_catalog.specs.declared.table_def.TableDef.{TableDef}
 use Rattle.chv_types.specs.Fits.{Fits, FitAll}
 use Rattle.chv_types.specs.declared.kind.Kind.{Kind}
@@ -13,8 +16,9 @@ use Rattle.chv_expr.specs.Bindings.{kinds_of}
 use Rattle.chv_expr.specs.Terms.{Term}
 use Rattle.chv_expr.specs.declared.bound.Bound.{Bound}
 use Rattle.chv_query.specs.Bound.{AllMean, IsFilter, IsQuery, IsShape, term_in}
+use Rattle.chv_query.specs.MergeBlind.{is_blind}
 use Rattle.chv_query.specs.Outputs.{filter_of}
-use Rattle.chv_query.specs.Queries.{Asked, asked_of, limit_of, sorts_of}
+use Rattle.chv_query.specs.Queries.{Asked, asked, asked_of, asked_select, limit_of, needs_final, sorts_of}
 use Rattle.chv_query.specs.Results.{outcome, output_row, passes}
 use Rattle.chv_query.specs.Shapes.{Shape, shape_of}
 use Rattle.chv_query.specs.declared.query.Sort.{Sort}
@@ -70,14 +74,32 @@ unfolding outcome
 outcome-Fits columns filter bounds terms row mean fit =
     made_Fits (map (λ (term : Term). term.kind) terms) (passes filter row) (output_row terms row) (output_row-Fits columns bounds terms row mean fit)
 
+-- what a SELECT asks is what is asked
+pub asked_select-asked : (catalog : Catalog) (select : Select) (query : Asked) → asked_select catalog select ≡ Ok query → asked catalog select ≡ Ok query
+unfolding asked_select
+asked_select-asked catalog select query asks =
+    let found = and_then-Ok (asked catalog select) _ query asks in
+    let needed = refuse_if-Ok (needs_final select found.0) NeedsFinal (Ok found.0) query found.2 in
+    found.1 ∙ needed.1
+
 -- a bound query is what is asked, where its parts are
-pub asked_of-IsQuery : (table : ℕ) (def : TableDef) (select : Select) (bound : Option Bound) (found : BoundShape) (filter : Option Term) (shape : Shape) (order : List Sort) (limit : Option ℕ)
+pub asked_of-IsQuery : (table : ℕ) (def : TableDef) (select : Select) (bound : Option Bound) (found : BoundShape) (filter : Option Term) (shape : Shape) (order : List Sort) (limit : Option ℕ) (blind : Bool)
     → filter_of def.columns select.filter ≡ Ok filter → IsFilter def.columns bound filter
     → shape_of def.columns select ≡ Ok shape → IsShape def.columns found shape
-    → sorts_of found.columns select.order ≡ Ok order → limit_of select.limit ≡ Ok limit
+    → sorts_of found.columns select.order ≡ Ok order → limit_of select.limit ≡ Ok limit → blind ≡ is_blind def select found.grouping
     → (query : Asked) × (asked_of table def select ≡ Ok query)
-    × IsQuery (record { table = table; columns = found.columns; filter = bound; terms = found.terms; grouping = found.grouping; order = order; limit = limit }) query
-asked_of-IsQuery table def select bound found filter shape order limit filtered is put are sorted limited =
+    × IsQuery (record {
+      table = table;
+      engine = def.engine;
+      columns = found.columns;
+      filter = bound;
+      terms = found.terms;
+      grouping = found.grouping;
+      order = order;
+      limit = limit;
+      blind = blind;
+    }) query
+asked_of-IsQuery table def select bound found filter shape order limit blind filtered is put are sorted limited seen =
     let same : (row : List Value) → outcome (option_map term_in bound) (map term_in found.terms) row ≡ outcome filter shape.terms row =
     λ row. outcome-same def.columns bound filter found.terms shape.terms row is are.mean in
     let fits : (row : List Value) → FitAll (kinds_of def.columns) row → IfSome (outcome filter shape.terms row) (All (FitAll (map (λ (term : Term). term.kind) shape.terms))) =
@@ -91,14 +113,17 @@ asked_of-IsQuery table def select bound found filter shape order limit filtered 
         columns = shape.columns;
         order = order;
         limit = limit;
+        blind = is_blind def select shape.grouping;
       },
       rw (filtered, put, ← are.columns, sorted, limited) refl,
       record {
         table = refl;
+        engine = refl;
         columns = are.columns;
         grouping = are.grouping;
         order = refl;
         limit = refl;
+        blind = seen ∙ ap (is_blind def select) are.grouping;
         same = same;
         fits = fits;
         takes = λ row fit. rw (same row, are.grouping)

@@ -4,15 +4,15 @@ use Rattle.std.proofs.lemmas.List.Elements.{All-head, All-tail}
 use Rattle.std.specs.List.{All, filter}
 use Rattle.std.specs.Ordering.{is_eq}
 use Rattle.std.specs.declared.cmp.Ordering.{Ordering}
-use Rattle.chv_agg.proofs.JoinFits.{set_size, set_size-join, set_size-unit}
-use Rattle.chv_agg.proofs.StateFrontLemmas.{state_in-fits}
-use Rattle.chv_agg.proofs.StateLemmas.{FitsState-counted}
+use Rattle.chv_agg.proofs.JoinFits.{set_size-join}
+use Rattle.chv_agg.proofs.StateFrontLemmas.{state_in-over}
+use Rattle.chv_agg.proofs.StateLemmas.{FitsState-few, set_size-unit}
+use Rattle.chv_agg.specs.Sets.{set_in, total_of}
 use Rattle.chv_agg.specs.StateBytes.{state_in}
-use Rattle.chv_agg.specs.States.{FitsState, IsOver, is_signed, join, merged, one_like, unit_of}
-use Rattle.chv_agg.specs.Tallies.{IsCounted}
+use Rattle.chv_agg.specs.States.{FitsState, IsOver, is_signed, join, merged, one_like, set_size, unit_of}
 use Rattle.chv_agg.specs.declared.any_agg.AnyAgg.{AnyAgg}
-use Rattle.chv_agg.specs.declared.any_agg.AnyAgg.TheVariants.{Count, SumU, SumI, Least, Greatest, Uniq}
-use Rattle.chv_group.proofs.OverLemmas.{IsOver-from_fits, join-IsOver, one_like_unit-IsOver, unit_of-IsOver}
+use Rattle.chv_agg.specs.declared.any_agg.AnyAgg.TheVariants.{Count, SumU, SumI}
+use Rattle.chv_group.proofs.OverLemmas.{join-IsOver, one_like_unit-IsOver, unit_of-IsOver}
 use Rattle.chv_group.specs.Groups.{TakesArgument, TakesValue, call_state, input_state, inputs_of, takes_states}
 use Rattle.chv_group.specs.declared.call.AggCall.{AggCall}
 use Rattle.chv_group.specs.declared.call.Keyed.{Keyed}
@@ -21,7 +21,6 @@ use Rattle.chv_types.specs.Order.{bytes, row_cmp}
 use Rattle.chv_types.specs.OrderLaws.{row_cmp-IsAntisymmetric}
 use Rattle.chv_types.specs.declared.aggregate.AggName.{AggName}
 use Rattle.chv_types.specs.declared.aggregate.AggName.TheVariants as agg
-use Rattle.chv_types.specs.declared.kind.Kind.{Kind}
 use Rattle.chv_types.specs.declared.kind.Kind.TheVariants as kind
 use Rattle.chv_types.specs.declared.kind.Scalar.{Scalar}
 use Rattle.chv_types.specs.declared.value.Value.{Value}
@@ -31,47 +30,37 @@ pub length-mapped : {A B : Type 0} (f : A → B) (xs : List A) → length (map f
 length-mapped f [] = refl
 length-mapped f (x ∷ xs) = ap suc (length-mapped f xs)
 
--- the numbers of items together
-abbrev pub total : {A : Type 0} → (A → ℕ) → List A → ℕ
-total f [] = 0
-total f (x ∷ xs) = f x + total f xs
-
 module _ {A : Type 0} where
-  pub total-map : {B : Type 0} (f : A → ℕ) (g : B → A) (xs : List B) → total f (map g xs) ≡ total (λ x. f (g x)) xs
-  total-map f g [] = refl
-  total-map f g (x ∷ xs) = ap (λ n. f (g x) + n) (total-map f g xs)
+  pub total_of-map : {B : Type 0} (f : A → ℕ) (g : B → A) (xs : List B) → total_of f (map g xs) ≡ total_of (λ x. f (g x)) xs
+  total_of-map f g [] = refl
+  total_of-map f g (x ∷ xs) = ap (λ n. f (g x) + n) (total_of-map f g xs)
 
-  pub total-none : (f : A → ℕ) → ((x : A) → f x ≡ 0) → (xs : List A) → total f xs ≡ 0
-  total-none f none [] = refl
-  total-none f none (x ∷ xs) = omega (arith, none x, total-none f none xs)
+  pub total_of-none : (f : A → ℕ) → ((x : A) → f x ≡ 0) → (xs : List A) → total_of f xs ≡ 0
+  total_of-none f none [] = refl
+  total_of-none f none (x ∷ xs) = omega (arith, none x, total_of-none f none xs)
 
-  pub total-length : (f : A → ℕ) → ((x : A) → f x ≤ 1) → (xs : List A) → total f xs ≤ length xs
-  total-length f one [] = omega arith
-  total-length f one (x ∷ xs) = omega (arith, one x, total-length f one xs)
+  pub total_of-length : (f : A → ℕ) → ((x : A) → f x ≤ 1) → (xs : List A) → total_of f xs ≤ length xs
+  total_of-length f one [] = omega arith
+  total_of-length f one (x ∷ xs) = omega (arith, one x, total_of-length f one xs)
 
-  pub total-more : (P : A → Type 0) (f g : A → ℕ) → ((x : A) → P x → f x ≤ g x) → (xs : List A) → All P xs → total f xs ≤ total g xs
-  total-more P f g more [] all = omega arith
-  total-more P f g more (x ∷ xs) all = omega (arith, more x (All-head P x xs all), total-more P f g more xs (All-tail P x xs all))
+  pub total_of-more : (P : A → Type 0) (f g : A → ℕ) → ((x : A) → P x → f x ≤ g x) → (xs : List A) → All P xs → total_of f xs ≤ total_of g xs
+  total_of-more P f g more [] all = omega arith
+  total_of-more P f g more (x ∷ xs) all = omega (arith, more x (All-head P x xs all), total_of-more P f g more xs (All-tail P x xs all))
 
-  pub total-same : (f g : A → ℕ) → ((x : A) → f x ≡ g x) → (xs : List A) → total f xs ≡ total g xs
-  total-same f g same [] = refl
-  total-same f g same (x ∷ xs) = omega (arith, same x, total-same f g same xs)
+  pub total_of-same : (f g : A → ℕ) → ((x : A) → f x ≡ g x) → (xs : List A) → total_of f xs ≡ total_of g xs
+  total_of-same f g same [] = refl
+  total_of-same f g same (x ∷ xs) = omega (arith, same x, total_of-same f g same xs)
 
-  kept : (f : A → ℕ) (x : A) (b : Bool) (rest whole : List A) → total f rest ≤ total f whole → total f (cond b (x ∷ rest) rest) ≤ f x + total f whole
+  kept : (f : A → ℕ) (x : A) (b : Bool) (rest whole : List A) → total_of f rest ≤ total_of f whole → total_of f (cond b (x ∷ rest) rest) ≤ f x + total_of f whole
   kept f x true rest whole less = omega (arith, less)
   kept f x false rest whole less = omega (arith, less)
 
   -- what is kept has no more than all
-  pub total-filter : (p : A → Bool) (f : A → ℕ) (xs : List A) → total f (filter p xs) ≤ total f xs
-  total-filter p f [] = omega arith
-  total-filter p f (x ∷ xs) = kept f x (p x) (filter p xs) xs (total-filter p f xs)
+  pub total_of-filter : (p : A → Bool) (f : A → ℕ) (xs : List A) → total_of f (filter p xs) ≤ total_of f xs
+  total_of-filter p f [] = omega arith
+  total_of-filter p f (x ∷ xs) = kept f x (p x) (filter p xs) xs (total_of-filter p f xs)
 
--- how many different values the state has that a value of a kind spells
-abbrev pub set_in : Kind → Value → ℕ
-set_in (kind.Plain plain) value = 0
-set_in (kind.State function arg) value = set_size (state_in function arg (bytes value))
-
--- and that an argument of a call stands for
+-- how many different values an argument of a call stands for
 abbrev pub input_size : AggCall → Value → ℕ
 input_size call value = set_size (input_state call value)
 
@@ -102,7 +91,7 @@ input-IsOver call value takes = by (takes_states call.form) takes
   where
     by : (states : Bool) → (states ≡ false → TakesValue call.agg call.arg value)
         → IsOver call.agg call.arg (if states then state_in call.agg call.arg (bytes value) else one_like (unit_of call.agg call.arg) value)
-    by true h = IsOver-from_fits call.agg call.arg (state_in call.agg call.arg (bytes value)) (state_in-fits call.agg call.arg (bytes value))
+    by true h = state_in-over call.agg call.arg (bytes value)
     by false h = one_like_unit-IsOver call.agg call.arg value (h refl)
 
 -- the joint state of arguments
@@ -114,28 +103,20 @@ merged-IsOver call state (value ∷ values) over all =
     (join-IsOver call.agg call.arg state (input_state call value) over (input-IsOver call value (All-head (TakesArgument call) value values all)))
     (All-tail (TakesArgument call) value values all)
 
-merged-size : (call : AggCall) (state : AnyAgg) (values : List Value) → set_size (merged state (map (input_state call) values)) ≤ set_size state + total (input_size call) values
+merged-size : (call : AggCall) (state : AnyAgg) (values : List Value) → set_size (merged state (map (input_state call) values)) ≤ set_size state + total_of (input_size call) values
 merged-size call state [] = omega arith
 merged-size call state (value ∷ values) =
     omega (arith, merged-size call (join state (input_state call value)) values, set_size-join state (input_state call value))
 
 -- it has no more values than they have together
-pub call_state-size : (call : AggCall) (values : List Value) → set_size (call_state call values) ≤ total (input_size call) values
+pub call_state-size : (call : AggCall) (values : List Value) → set_size (call_state call values) ≤ total_of (input_size call) values
 call_state-size call values = omega (arith, merged-size call (unit_of call.agg call.arg) values, set_size-unit call.agg call.arg)
 
-counted : (state : AnyAgg) → set_size state < 2 ^ 64 → IsCounted state
-counted (Uniq values) few = few
-counted (Count n) few = tt
-counted (SumU n) few = tt
-counted (SumI n) few = tt
-counted (Least found) few = tt
-counted (Greatest found) few = tt
-
 -- and fits, where they are fewer than 2^64
-pub call_state-fits : (call : AggCall) (values : List Value) → All (TakesArgument call) values → total (input_size call) values < 2 ^ 64
+pub call_state-fits : (call : AggCall) (values : List Value) → All (TakesArgument call) values → total_of (input_size call) values < 2 ^ 64
     → FitsState call.agg call.arg (call_state call values)
 call_state-fits call values all few =
-    FitsState-counted call.agg call.arg (call_state call values) (counted (call_state call values) (omega (arith, few, call_state-size call values)))
+    FitsState-few call.agg call.arg (call_state call values) (omega (arith, few, call_state-size call values))
     (merged-IsOver call (unit_of call.agg call.arg) values (unit_of-IsOver call.agg call.arg) all)
 
 -- a list has no more items, each once, than it has
@@ -155,16 +136,16 @@ module _ {A : Type 0} (cmp : A → A → Ordering) where
 
 -- an input is of one group at most
 below_none : (key : List Value) (keys : List (List Value)) (n : ℕ) → All (λ other. row_cmp key other ≡ Less) keys
-    → total (λ other. cond (is_eq (row_cmp key other)) n 0) keys ≡ 0
+    → total_of (λ other. cond (is_eq (row_cmp key other)) n 0) keys ≡ 0
 below_none key [] n all = refl
 below_none key (other ∷ keys) n all =
     let rest = below_none key keys n (All-tail (λ other. row_cmp key other ≡ Less) other keys all) in
     rw (All-head (λ other. row_cmp key other ≡ Less) other keys all) (omega (arith, rest))
 
-one_group : (key : List Value) (keys : List (List Value)) (n : ℕ) → Rises row_cmp keys → total (λ other. cond (is_eq (row_cmp key other)) n 0) keys ≤ n
+one_group : (key : List Value) (keys : List (List Value)) (n : ℕ) → Rises row_cmp keys → total_of (λ other. cond (is_eq (row_cmp key other)) n 0) keys ≤ n
 one_group key [] n rise = omega arith
 one_group key (first ∷ keys) n rise =
-    elim (row_cmp key first) as (λ o. row_cmp key first ≡ o → cond (is_eq o) n 0 + total (λ other. cond (is_eq (row_cmp key other)) n 0) keys ≤ n) [
+    elim (row_cmp key first) as (λ o. row_cmp key first ≡ o → cond (is_eq o) n 0 + total_of (λ other. cond (is_eq (row_cmp key other)) n 0) keys ≤ n) [
       | Less ↦ λ e. omega (arith, one_group key keys n rise.1)
       | Equal ↦ λ e.
           let same : key ≡ first = row_cmp-IsAntisymmetric key first e in
@@ -174,16 +155,16 @@ one_group key (first ∷ keys) n rise =
 
 -- the inputs of groups have no more together than all inputs
 step : (f : Keyed → ℕ) (input : Keyed) (inputs : List Keyed) (keys : List (List Value))
-    → total (λ key. total f (inputs_of key (input ∷ inputs))) keys
-    ≡ total (λ key. cond (is_eq (row_cmp input.key key)) (f input) 0) keys + total (λ key. total f (inputs_of key inputs)) keys
+    → total_of (λ key. total_of f (inputs_of key (input ∷ inputs))) keys
+    ≡ total_of (λ key. cond (is_eq (row_cmp input.key key)) (f input) 0) keys + total_of (λ key. total_of f (inputs_of key inputs)) keys
 step f input inputs [] = refl
 step f input inputs (key ∷ keys) = omega (arith, by (is_eq (row_cmp input.key key)), step f input inputs keys)
   where
-    by : (b : Bool) → total f (cond b (input ∷ inputs_of key inputs) (inputs_of key inputs)) ≡ cond b (f input) 0 + total f (inputs_of key inputs)
+    by : (b : Bool) → total_of f (cond b (input ∷ inputs_of key inputs) (inputs_of key inputs)) ≡ cond b (f input) 0 + total_of f (inputs_of key inputs)
     by true = refl
     by false = omega arith
 
-pub total-groups : (f : Keyed → ℕ) (keys : List (List Value)) (inputs : List Keyed) → Rises row_cmp keys → total (λ key. total f (inputs_of key inputs)) keys ≤ total f inputs
-total-groups f keys [] rise = omega (arith, total-none (λ (key : List Value). 0) (λ key. refl) keys)
-total-groups f keys (input ∷ inputs) rise =
-    omega (arith, step f input inputs keys, one_group input.key keys (f input) rise, total-groups f keys inputs rise)
+pub total_of-groups : (f : Keyed → ℕ) (keys : List (List Value)) (inputs : List Keyed) → Rises row_cmp keys → total_of (λ key. total_of f (inputs_of key inputs)) keys ≤ total_of f inputs
+total_of-groups f keys [] rise = omega (arith, total_of-none (λ (key : List Value). 0) (λ key. refl) keys)
+total_of-groups f keys (input ∷ inputs) rise =
+    omega (arith, step f input inputs keys, one_group input.key keys (f input) rise, total_of-groups f keys inputs rise)

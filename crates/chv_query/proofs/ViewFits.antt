@@ -8,11 +8,11 @@ use Rattle.std.proofs.lemmas.Slice.Eq.{bytes_eq-Decides}
 use Rattle.std.specs.List.{All, list_any}
 use Rattle.std.specs.Option.{option_and_then, unwrap_or}
 use Rattle.std.specs.Str.{bytes_eq}
-use Rattle.chv_agg.proofs.JoinFits.{set_size, set_size-state_in}
-use Rattle.chv_agg.proofs.StateFrontLemmas.{state_in-fits, state_in-spelled}
+use Rattle.chv_agg.proofs.StateFrontLemmas.{set_size-state_in, state_in-over, state_in-spelled}
 use Rattle.chv_agg.specs.Plain.{scalar_code}
+use Rattle.chv_agg.specs.Sets.{SetsWithin, set_in, total_of}
 use Rattle.chv_agg.specs.StateBytes.{agg_number, state_bytes, state_in}
-use Rattle.chv_agg.specs.States.{FitsState}
+use Rattle.chv_agg.specs.States.{IsOver, set_size}
 use Rattle.chv_agg.specs.declared.any_agg.AnyAgg.{AnyAgg}
 use Rattle.chv_agg.specs.declared.any_agg.AnyAgg.TheVariants.{Count, SumU, SumI, Least, Greatest, Uniq}
 use Rattle.chv_ast.specs.declared.statement.Select.{Select}
@@ -25,10 +25,10 @@ use Rattle.chv_catalog.specs.declared.table_def.TableDef.{TableDef}
 use Rattle.chv_expr.proofs.TermFits.{AllOf, value_at-of}
 use Rattle.chv_expr.specs.Terms.{value_at}
 use Rattle.chv_part.specs.Books.{MAX_ROWS}
-use Rattle.chv_query.proofs.GroupFits.{AllAreOf-from, AllAreOf-to, IsApt, SetsWithin, column_kinds, slice_get-mapped}
+use Rattle.chv_query.proofs.GroupFits.{AllAreOf-from, AllAreOf-to, IsApt, column_kinds, slice_get-mapped}
 use Rattle.chv_query.proofs.GrowthLemmas.{All-at}
 use Rattle.chv_query.proofs.QueryFits.{plain_same, result_of-fits, result_of-length}
-use Rattle.chv_query.proofs.SetSums.{length-mapped, set_in, total, total-map, total-more, total-none, total-same}
+use Rattle.chv_query.proofs.SetSums.{length-mapped, total_of-map, total_of-more, total_of-none, total_of-same}
 use Rattle.chv_query.specs.Derived.{put_to, value_to, viewed}
 use Rattle.chv_query.specs.Queries.{Asked, asked_of, result_of}
 use Rattle.chv_query.specs.Views.{fills, fills_place, is_wider, kind_eq, lies_within, names_in, widens_to}
@@ -155,17 +155,17 @@ widened-set from to value widens = by (widens_cases from to widens)
     by (inr wide) = wide_set from to wide
 
 -- the state of no rows has no set
-set_none : (function : AggName) (arg : Scalar) (state : AnyAgg) → FitsState function arg state → (function ≡ agg.UniqExact → ⊥) → set_size state ≡ 0
-set_none agg.Count arg (Uniq values) fits other = absurd fits
-set_none agg.Sum arg (Uniq values) fits other = absurd fits
-set_none agg.Min arg (Uniq values) fits other = absurd fits
-set_none agg.Max arg (Uniq values) fits other = absurd fits
-set_none agg.UniqExact arg (Uniq values) fits other = absurd (other refl)
-set_none function arg (Count n) fits other = refl
-set_none function arg (SumU n) fits other = refl
-set_none function arg (SumI n) fits other = refl
-set_none function arg (Least found) fits other = refl
-set_none function arg (Greatest found) fits other = refl
+set_none : (function : AggName) (arg : Scalar) (state : AnyAgg) → IsOver function arg state → (function ≡ agg.UniqExact → ⊥) → set_size state ≡ 0
+set_none agg.Count arg (Uniq values) over other = absurd over
+set_none agg.Sum arg (Uniq values) over other = absurd over
+set_none agg.Min arg (Uniq values) over other = absurd over
+set_none agg.Max arg (Uniq values) over other = absurd over
+set_none agg.UniqExact arg (Uniq values) over other = absurd (other refl)
+set_none function arg (Count n) over other = refl
+set_none function arg (SumU n) over other = refl
+set_none function arg (SumI n) over other = refl
+set_none function arg (Least found) over other = refl
+set_none function arg (Greatest found) over other = refl
 
 empty_set : (arg : Scalar) → set_size (state_in agg.UniqExact arg (0 ∷ 0 ∷ 0 ∷ 0 ∷ 0 ∷ 0 ∷ 0 ∷ 0 ∷ [])) ≡ 0
 unfolding state_bytes
@@ -174,10 +174,10 @@ empty_set arg = ap set_size (state_in-spelled agg.UniqExact arg (Uniq []) (All-n
 default_set : (of : Kind) → set_in of (default_of of) ≡ 0
 default_set (kind.Plain plain) = refl
 default_set (kind.State agg.UniqExact arg) = empty_set arg
-default_set (kind.State agg.Count arg) = set_none agg.Count arg (state_in agg.Count arg _) (state_in-fits agg.Count arg _) (λ h. cc h)
-default_set (kind.State agg.Sum arg) = set_none agg.Sum arg (state_in agg.Sum arg _) (state_in-fits agg.Sum arg _) (λ h. cc h)
-default_set (kind.State agg.Min arg) = set_none agg.Min arg (state_in agg.Min arg _) (state_in-fits agg.Min arg _) (λ h. cc h)
-default_set (kind.State agg.Max arg) = set_none agg.Max arg (state_in agg.Max arg _) (state_in-fits agg.Max arg _) (λ h. cc h)
+default_set (kind.State agg.Count arg) = set_none agg.Count arg (state_in agg.Count arg _) (state_in-over agg.Count arg _) (λ h. cc h)
+default_set (kind.State agg.Sum arg) = set_none agg.Sum arg (state_in agg.Sum arg _) (state_in-over agg.Sum arg _) (λ h. cc h)
+default_set (kind.State agg.Min arg) = set_none agg.Min arg (state_in agg.Min arg _) (state_in-over agg.Min arg _) (λ h. cc h)
+default_set (kind.State agg.Max arg) = set_none agg.Max arg (state_in agg.Max arg _) (state_in-over agg.Max arg _) (λ h. cc h)
 
 -- the place of a name has the name
 place_of-name : (columns : List Column) (name : List ℕ) (place : ℕ) → place_of name (names_in columns) ≡ Some place
@@ -266,8 +266,8 @@ module _ (target : List Column) (once : has_repeat (names_in target) ≡ false) 
 
   module _ (most : ℕ) (rows : List (List Value)) (are : All (AllOf IsOf (column_kinds columns)) rows) (within : SetsWithin most (column_kinds columns) rows) where
     given_within : (place : ℕ) (to : Column) (found : Option ℕ) → slice_get target place ≡ Some to → place_of to.name (names_in columns) ≡ found
-        → total (λ values. set_in to.kind (given values to found)) rows ≤ most
-    given_within place to None at e = omega (arith, total-none (λ (values : List Value). set_in to.kind (default_of to.kind)) (λ values. default_set to.kind) rows)
+        → total_of (λ values. set_in to.kind (given values to found)) rows ≤ most
+    given_within place to None at e = omega (arith, total_of-none (λ (values : List Value). set_in to.kind (default_of to.kind)) (λ values. default_set to.kind) rows)
     given_within place to (Some p) at e =
         let from = place_of-name columns to.name p e in
         let kind_of = λ (column : Column). column.kind in
@@ -275,7 +275,7 @@ module _ (target : List Column) (once : has_repeat (names_in target) ≡ false) 
         let widens = fills_to place to p from.0 at from.1 from.2 in
         omega (
           arith,
-          total-more (AllOf IsOf (column_kinds columns)) (λ values. set_in to.kind (unwrap_or (slice_get values p) (default_of to.kind))) (λ values. set_in from.0.kind (value_at p values))
+          total_of-more (AllOf IsOf (column_kinds columns)) (λ values. set_in to.kind (unwrap_or (slice_get values p) (default_of to.kind))) (λ values. set_in from.0.kind (value_at p values))
               (λ values of. by from.0.kind values widens (slice_get values p) refl) rows are,
           within p from.0.kind here,
         )
@@ -291,11 +291,11 @@ module _ (target : List Column) (once : has_repeat (names_in target) ≡ false) 
         let names = names_in columns in
         let same : (values : List Value) → value_at place (put_to target names values) ≡ value_to names values to.0 =
         λ values. ap (λ (o : Option Value). unwrap_or o (Whole (pos 0))) (slice_get-map (value_to names values) target place ∙ ap (option_map (value_to names values)) to.1) in
-        subst (λ (k : Kind). total (λ row. set_in k (value_at place row)) (map (put_to target names) rows) ≤ most) to.2
+        subst (λ (k : Kind). total_of (λ row. set_in k (value_at place row)) (map (put_to target names) rows) ≤ most) to.2
         (omega (
           arith,
-          total-map (λ row. set_in to.0.kind (value_at place row)) (put_to target names) rows,
-          total-same (λ values. set_in to.0.kind (value_at place (put_to target names values))) (λ values. set_in to.0.kind (value_to names values to.0))
+          total_of-map (λ row. set_in to.0.kind (value_at place row)) (put_to target names) rows,
+          total_of-same (λ values. set_in to.0.kind (value_at place (put_to target names values))) (λ values. set_in to.0.kind (value_to names values to.0))
               (λ values. ap (set_in to.0.kind) (same values)) rows,
           given_within place to.0 (place_of to.0.name names) to.1 refl,
         ))
@@ -347,14 +347,14 @@ small_at row place small = by (slice_get row place) refl
     by None e = omega arith
     by (Some value) e = All-at IsSmall row place value small e
 
-total-small : (of : Kind) (place : ℕ) (rows : List (List Value)) → All (All IsSmall) rows → total (λ row. set_in of (value_at place row)) rows ≤ 1048576 * length rows
-total-small of place [] small = omega arith
-total-small of place (row ∷ rows) small =
+total_of-small : (of : Kind) (place : ℕ) (rows : List (List Value)) → All (All IsSmall) rows → total_of (λ row. set_in of (value_at place row)) rows ≤ 1048576 * length rows
+total_of-small of place [] small = omega arith
+total_of-small of place (row ∷ rows) small =
     omega (
       arith,
       small_set of (value_at place row) (small_at row place (All-head (All IsSmall) row rows small)),
-      total-small of place rows (All-tail (All IsSmall) row rows small),
+      total_of-small of place rows (All-tail (All IsSmall) row rows small),
     )
 
 pub SetsWithin-small : (kinds : List Kind) (rows : List (List Value)) → All (All IsSmall) rows → length rows ≤ MAX_ROWS → SetsWithin (2 ^ 40) kinds rows
-SetsWithin-small kinds rows small short place of at = omega (arith, short, total-small of place rows small)
+SetsWithin-small kinds rows small short place of at = omega (arith, short, total_of-small of place rows small)

@@ -1,5 +1,5 @@
 -- What a catalog has: accepted CREATE statements, and what they define.
-use Rattle.std.specs.Prelude.{ℕ, ◌≡◌, Bool, true, false, not, List, [], ◌∷◌, map, Ok}
+use Rattle.std.specs.Prelude.{ℕ, ◌≡◌, List, [], ◌∷◌, map, Ok}
 use Rattle.std.specs.List.{flat_map}
 use Rattle.chv_ast.specs.Formed.{WellFormed}
 use Rattle.chv_ast.specs.declared.statement.CreateTable.{CreateTable}
@@ -10,7 +10,7 @@ use Rattle.chv_catalog.specs.declared.definition.Definition.{Definition}
 use Rattle.chv_catalog.specs.declared.definition.Definition.TheVariants.{Table, View}
 use Rattle.chv_catalog.specs.declared.table_def.TableDef.{TableDef}
 use Rattle.chv_catalog.specs.declared.view_def.ViewDef.{ViewDef}
-use Rattle.chv_query.specs.Definitions.{defined, is_aggregating}
+use Rattle.chv_query.specs.Definitions.{defined}
 use Rattle.chv_query.specs.Views.{defined_view}
 use Rattle.chv_print.specs.StatementTexts.{statement_text}
 
@@ -41,16 +41,6 @@ views_of schema = flat_map (λ (accepted : Accepted). views_in accepted.definiti
 abbrev pub catalog_of : List Accepted → Catalog
 catalog_of schema = record { tables = tables_of schema; views = views_of schema }
 
--- a table whose rows are not merged
-unfoldable pub is_built_table : CreateTable → Bool
-is_built_table made = not (is_aggregating made.engine)
-
--- a CREATE statement that is built
-abbrev pub is_built_create : Statement → Bool
-is_built_create (statement.CreateTable made) = is_built_table made
-is_built_create (statement.CreateView made) = true
-is_built_create other = false
-
 -- no check refuses a statement beside what is defined, and this is what it defines
 abbrev pub Defines : Catalog → Statement → Definition → Type 0
 Defines catalog (statement.CreateTable made) (Table def) = defined catalog made ≡ Ok def
@@ -65,10 +55,9 @@ pub record IsAccepted (catalog : Catalog) (accepted : Accepted) : Type 0 where
 -- statements are accepted one after the other, beside what is defined
 abbrev pub AreAccepted : Catalog → List Accepted → Type 0
 AreAccepted catalog [] = Unit {0}
-AreAccepted catalog (accepted ∷ schema) =
-    (is_built_create accepted.statement ≡ true) × IsAccepted catalog accepted × AreAccepted (with_definition accepted.definition catalog) schema
+AreAccepted catalog (accepted ∷ schema) = IsAccepted catalog accepted × AreAccepted (with_definition accepted.definition catalog) schema
 
--- a schema: each of its statements is built, and accepted over those before it
+-- a schema: each of its statements is accepted over those before it
 abbrev pub IsSchema : List Accepted → Type 0
 IsSchema schema = AreAccepted no_definitions schema
 

@@ -113,15 +113,17 @@ TakesValues (Some groups) values = TakesArguments groups.calls (drop groups.keys
 abbrev pub TakesRow : Query → List Value → Type 0
 TakesRow query row = IfSome (made_by query row) (All (TakesValues query.grouping))
 
--- a bound query is what is asked: of the same table, with the same grouping, columns, order and bound on rows; it makes of each
--- row the same; and of a row of the table's kinds rows of the terms' kinds, which its calls take, and which are the columns'
+-- a bound query is what is asked: of the same table and engine, with the same grouping, columns, order and bound on rows; it sees
+-- merges where that does; it makes of each row the same; and of a row of the table's kinds rows of the terms' kinds, which its calls take, and which are the columns'
 -- kinds where it does not group
 pub record IsQuery (query : Query) (asked : Asked) : Type 0 where
   pub table : query.table ≡ asked.table
+  pub engine : query.engine ≡ asked.def.engine
   pub columns : query.columns ≡ asked.columns
   pub grouping : query.grouping ≡ asked.grouping
   pub order : query.order ≡ asked.order
   pub limit : query.limit ≡ asked.limit
+  pub blind : query.blind ≡ asked.blind
   pub same : (row : List Value) → made_by query row ≡ made_of asked row
   pub fits : (row : List Value) → FitAll (kinds_of asked.def) row
       → IfSome (made_of asked row) (All (FitAll (map (λ (term : Term). term.kind) asked.terms)))

@@ -6,6 +6,7 @@ pub mod Definitions
 pub mod Derived
 pub mod Keys
 pub mod Literals
+pub mod MergeBlind
 pub mod Outputs
 pub mod Plans
 pub mod Queries

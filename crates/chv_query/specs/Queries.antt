@@ -1,8 +1,8 @@
 -- What a query asks, or the first check that refuses it: docs/SQL.md, "SELECT".
-use Rattle.std.specs.Prelude.{ℕ, Bool, false, List, [], ◌∷◌, map, slice_get, Option, None, Some, Result, Ok}
+use Rattle.std.specs.Prelude.{ℕ, Bool, true, false, not, ◌&&◌, List, [], ◌∷◌, map, slice_get, Option, None, Some, Result, Ok}
 use Rattle.std.specs.Option.{option_map}
 use Rattle.chv_ast.specs.declared.refusal.Refusal.{Refusal}
-use Rattle.chv_ast.specs.declared.refusal.Refusal.TheVariants.{UnknownColumn, TypeMismatch, BadLiteral}
+use Rattle.chv_ast.specs.declared.refusal.Refusal.TheVariants.{UnknownColumn, TypeMismatch, BadLiteral, NeedsFinal}
 use Rattle.chv_ast.specs.declared.statement.Order.{Order}
 use Rattle.chv_ast.specs.declared.statement.Select.{Select}
 use Rattle.chv_catalog.specs.Checks.{is_state}
@@ -13,8 +13,11 @@ use Rattle.chv_types.specs.Names.{place_of}
 use Rattle.chv_types.specs.Steps.{and_then, or_refuse, refuse_if}
 use Rattle.chv_types.specs.Texts.{whole_number}
 use Rattle.chv_types.specs.declared.table.Column.{Column}
+use Rattle.chv_types.specs.declared.table.Engine.{Engine}
+use Rattle.chv_types.specs.declared.table.Engine.TheVariants as engine
 use Rattle.chv_types.specs.declared.value.Value.{Value}
 use Rattle.chv_expr.specs.Terms.{Term}
+use Rattle.chv_query.specs.MergeBlind.{is_blind}
 use Rattle.chv_query.specs.Outputs.{filter_of}
 use Rattle.chv_query.specs.Results.{outcome, results, shaped, division_in, first_division_in}
 use Rattle.chv_query.specs.Shapes.{shape_of}
@@ -22,8 +25,8 @@ use Rattle.chv_query.specs.declared.groups.Groups.{Groups}
 use Rattle.chv_query.specs.declared.query.Sort.{Sort}
 
 -- what a query asks: of which table, by its number and its definition; the condition, if any; what is evaluated on each row that
--- passes; how these rows are grouped, if they are; the output columns; the columns to sort by, the most telling first; and how
--- many rows at most
+-- passes; how these rows are grouped, if they are; the output columns; the columns to sort by, the most telling first; how many
+-- rows at most; and whether it does not see merges
 pub record Asked : Type 0 where
   pub table : ℕ
   pub def : TableDef
@@ -33,6 +36,7 @@ pub record Asked : Type 0 where
   pub columns : List Column
   pub order : List Sort
   pub limit : Option ℕ
+  pub blind : Bool
 
 -- the column to sort by: the first of the name, which is no state
 abbrev pub sort_of : List Column → Order → Result Sort Refusal
@@ -67,11 +71,29 @@ asked_of table def select =
       columns = shape.columns;
       order = order;
       limit = limit;
+      blind = is_blind def select shape.grouping;
     })))))
 
 -- what a query asks, or the first check that refuses it
 unfoldable pub asked : Catalog → Select → Result Asked Refusal
 asked catalog select = and_then (table_of catalog select.table) (λ found. asked_of found.0 found.1 select)
+
+-- a query does not see which rows of its table merges have made one
+abbrev pub is_merge_blind : Asked → Bool
+is_merge_blind query = query.blind
+
+-- merges of a table make rows one
+abbrev pub joins_rows : Engine → Bool
+joins_rows engine.MergeTree = false
+joins_rows engine.Aggregating = true
+
+-- a query needs FINAL: merges make rows of its table one, it might see which, and it has no FINAL
+abbrev pub needs_final : Select → Asked → Bool
+needs_final select query = joins_rows query.def.engine && (not select.merged && not (is_merge_blind query))
+
+-- what a SELECT asks, or the first check that refuses it; what a view asks needs no FINAL, since it sees the blocks that are inserted
+unfoldable pub asked_select : Catalog → Select → Result Asked Refusal
+asked_select catalog select = and_then (asked catalog select) (λ query. refuse_if (needs_final select query) NeedsFinal (Ok query))
 
 -- the values of its terms over a row that passes
 abbrev pub made_of : Asked → List Value → Option (List (List Value))
@@ -88,7 +110,3 @@ divides query = division_in (made_of query)
 -- the first of these rows on which a query divides by zero
 abbrev pub first_division : Asked → List (List Value) → Option ℕ
 first_division query = first_division_in (made_of query)
-
--- the form of a query is known not to see which rows of its table merges have made one; so far it is of none
-abbrev pub is_merge_blind : Asked → Bool
-is_merge_blind query = false

@@ -3,6 +3,7 @@ ghost use Rattle.chv_query.specs.Bound.{AnswersAs, IsQuery};
 ghost use Rattle.chv_query.specs.Queries.{asked, asked_of};
 
 use crate::Query;
+use crate::merge_blind::is_blind;
 use crate::order::{bind_limit, bind_order};
 use crate::output::bind_filter;
 use crate::shape::bind_shape;
@@ -34,13 +35,16 @@ fn bind_to(
     let shape = bind_shape(alloc, &def.columns, select)?;
     let order = bind_order(alloc, &shape.columns, select.order.as_slice())?;
     let limit = bind_limit(select.limit.as_ref())?;
+    let blind = is_blind(def, select, shape.grouping.as_ref());
     Ok(Query {
         table,
+        engine: def.engine,
         columns: shape.columns,
         filter,
         terms: shape.terms,
         grouping: shape.grouping,
         order,
         limit,
+        blind,
     })
 }

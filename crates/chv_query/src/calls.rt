@@ -158,8 +158,8 @@ fn same_function(a: AggName, b: AggName) -> bool
     a == b
 }
 
-// Whether a form takes states.
-fn takes_states(form: AggForm) -> bool
+/// Whether a form takes states.
+pub fn takes_states(form: AggForm) -> bool
     ensures { result ≡ takes_states form }
 {
     match form {

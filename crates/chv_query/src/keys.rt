@@ -74,8 +74,8 @@ fn bind_key(alloc: Global, columns: &Columns, tree: &Expr) -> Result<Bound, Stat
     Ok(bound)
 }
 
-// The expression that a key stands for.
-fn key_tree<'a>(columns: &[Column], items: &'a [Item], key: &'a Expr) -> Option<&'a Expr>
+/// The expression that a key stands for: a name that is no column's stands for the item with that alias.
+pub fn key_tree<'a>(columns: &[Column], items: &'a [Item], key: &'a Expr) -> Option<&'a Expr>
     ensures { option_copied result ≡ key_tree columns.now items.now key.now }
 {
     match key {

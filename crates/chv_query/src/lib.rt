@@ -8,6 +8,7 @@ mod cells;
 mod fault;
 mod groups;
 mod keys;
+mod merge_blind;
 mod order;
 mod output;
 mod query;

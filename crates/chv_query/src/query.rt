@@ -1,11 +1,12 @@
 // Queries.
 ghost use Rattle.std.specs.Prelude.{◌≡◌};
 ghost use Rattle.chv_query.specs.Bound.{IsQuery};
-ghost use Rattle.chv_query.specs.Queries.{Asked, is_merge_blind};
+ghost use Rattle.chv_query.specs.Queries.{Asked, is_merge_blind, joins_rows, needs_final};
 
 use crate::Groups;
+use chv_ast::Select;
 use chv_expr::Bound;
-use chv_types::Columns;
+use chv_types::{Columns, Engine};
 use sqlite_items::Items;
 
 /// A column to sort by.
@@ -21,12 +22,14 @@ pub struct Sort {
 #[derive(Drop)]
 pub struct Query {
     pub(crate) table: u32,
+    pub(crate) engine: Engine,
     pub(crate) columns: Columns,
     pub(crate) filter: Option<Bound>,
     pub(crate) terms: Items<Bound>,
     pub(crate) grouping: Option<Groups>,
     pub(crate) order: Items<Sort>,
     pub(crate) limit: Option<u64>,
+    pub(crate) blind: bool,
 }
 
 impl Query {
@@ -58,11 +61,29 @@ impl Query {
         self.limit
     }
 
-    /// Whether the form of what is asked is known not to see which rows of its table merges have made one. So far it is of no
-    /// query.
+    /// Whether it does not see which rows of its table merges have made one: it groups, WHERE and GROUP BY use only columns of
+    /// the sorting key, and each call takes states.
     pub fn merge_blind(&self) -> bool
         ensures { (asked : Asked) → IsQuery self.now asked → result ≡ is_merge_blind asked }
     {
-        false
+        self.blind
+    }
+
+    /// Whether it needs FINAL, as the query of this statement: merges make rows of its table one, it might see which, and it has
+    /// no FINAL.
+    pub fn needs_final(&self, select: &Select) -> bool
+        ensures { (asked : Asked) → IsQuery self.now asked → result ≡ needs_final select.now asked }
+    {
+        joins_rows(self.engine) && !select.merged && !self.merge_blind()
+    }
+}
+
+// Whether merges of a table make rows one.
+fn joins_rows(engine: Engine) -> bool
+    ensures { result ≡ joins_rows engine }
+{
+    match engine {
+        Engine::MergeTree => false,
+        Engine::Aggregating => true,
     }
 }

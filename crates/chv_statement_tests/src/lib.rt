@@ -10,6 +10,8 @@ mod making;
 #[cfg(test)]
 mod paths;
 #[cfg(test)]
+mod queries;
+#[cfg(test)]
 mod schemas;
 #[cfg(test)]
 mod tables;

@@ -1,12 +1,12 @@
 // Schemas, made of the texts of their statements.
-ghost use Rattle.std.specs.Prelude.{◌≡◌, true, IfSome};
+ghost use Rattle.std.specs.Prelude.{◌≡◌, IfSome};
 ghost use Rattle.chv_ast.specs.Formed.{FormedTable, FormedView};
-ghost use Rattle.chv_query.specs.Accepted.{Accepted, IsAccepted, IsCatalog, is_built_create, is_built_table};
+ghost use Rattle.chv_query.specs.Accepted.{Accepted, IsAccepted, IsCatalog};
 
 use crate::making::{name_of, statement_of};
 use chv_ast::{CreateTable, CreateView, Statement};
 use chv_catalog::{Definition, Schema};
-use chv_define::{define, define_view, is_built_table};
+use chv_define::{define, define_view};
 use std::alloc::Global;
 
 /// What the texts define, one after the other; None where one is refused.
@@ -40,18 +40,6 @@ fn add_table(alloc: Global, schema: &mut Schema, made: CreateTable) -> bool
     requires formed { FormedTable made }
     ensures schema { IsCatalog schema.new.catalog }
 {
-    if is_built_table(&made) {
-        return add_built(alloc, schema, made);
-    }
-    false
-}
-
-fn add_built(alloc: Global, schema: &mut Schema, made: CreateTable) -> bool
-    requires schema { IsCatalog schema.old.catalog }
-    requires formed { FormedTable made }
-    requires built { is_built_table made ≡ true }
-    ensures schema { IsCatalog schema.new.catalog }
-{
     match define(alloc, schema, &made) {
         Ok(table) => put(alloc, schema, Definition::Table(table.def)),
         Err(_) => false,
@@ -72,7 +60,7 @@ fn add_view(alloc: Global, schema: &mut Schema, made: CreateView) -> bool
 // Puts what is defined behind what stands.
 fn put(alloc: Global, schema: &mut Schema, definition: Definition) -> bool
     requires schema { IsCatalog schema.old.catalog }
-    requires accepted { (accepted : Accepted) × (accepted.definition ≡ definition) × (is_built_create accepted.statement ≡ true) × IsAccepted schema.old.catalog accepted }
+    requires accepted { (accepted : Accepted) × (accepted.definition ≡ definition) × IsAccepted schema.old.catalog accepted }
     ensures schema { IsCatalog schema.new.catalog }
 {
     match schema.reserve_one(alloc, name_of(&definition)) {

@@ -78,7 +78,7 @@ definitions_next catalog gate file read so_far reads =
     let accepted : Accepted = record { statement = reads.0; definition = read.definition } in
     record {
       schema = so_far.schema ++ accepted ∷ [];
-      lawful = IsSchema-push so_far.schema accepted so_far.lawful reads.1.built (subst (λ (c : Catalog). IsAccepted c accepted) so_far.are reads.1.passes);
+      lawful = IsSchema-push so_far.schema accepted so_far.lawful (subst (λ (c : Catalog). IsAccepted c accepted) so_far.are reads.1);
       are = ap (with_definition read.definition) so_far.are ∙ sym (catalog_of-push so_far.schema accepted);
       read = subst (λ (ps : List (List ℕ)). IsReadUpTo read.next ps file) (sym (map-append catalog_payload so_far.schema (accepted ∷ [])))
           (reads_more gate (map catalog_payload so_far.schema) file (statement_text reads.0) read.next so_far.read reads.2 reads.3);

@@ -11,7 +11,7 @@ use Rattle.chv_ast.specs.declared.statement.Statement.TheVariants as statement
 use Rattle.chv_catalog.specs.Schemas.{Catalog}
 use Rattle.chv_catalog.specs.declared.definition.Definition.{Definition}
 use Rattle.chv_catalog.specs.declared.definition.Definition.TheVariants.{Table, View}
-use Rattle.chv_query.specs.Accepted.{Defines, is_built_create}
+use Rattle.chv_query.specs.Accepted.{Defines}
 use Rattle.chv_query.specs.Definitions.{defined}
 use Rattle.chv_query.specs.Views.{defined_view}
 use Rattle.chv_parse.specs.StatementTexts.{statement_in}
@@ -28,38 +28,19 @@ statement_read text s create read formed is = same_statement s create (sym read 
 
 -- a text that is no statement
 pub none_read : (catalog : Catalog) (text : List ℕ) → statement_in text ≡ None → TextMakesNone catalog text
-none_read catalog text unread create definition makes is = absurd (none_some create (sym unread ∙ ap statement_in is ∙ read_back create makes.passes.formed))
+none_read catalog text unread create definition makes is = absurd (none_some create (sym unread ∙ ap statement_in is ∙ read_back create makes.formed))
   where
     none_some : (s : Statement) → None ≡ Some s → ⊥
     none_some s same = cc same
 
--- a statement that makes neither a table nor a view is not built
-pub makes_neither : (s : Statement) → ((made : CreateTable) → s ≢ statement.CreateTable made) → ((made : CreateView) → s ≢ statement.CreateView made) → is_built_create s ≡ false
-makes_neither (statement.CreateTable made) table view = absurd (table made refl)
-makes_neither (statement.CreateView made) table view = absurd (view made refl)
-makes_neither (statement.Insert brought) table view = refl
-makes_neither (statement.Query asked) table view = refl
-makes_neither (statement.ShowParts asked) table view = refl
-makes_neither (statement.Optimize asked) table view = refl
-makes_neither statement.FlushQueue table view = refl
-
--- a text of a statement that is not built
-pub unbuilt_read : (catalog : Catalog) (text : List ℕ) (s : Statement) → statement_in text ≡ Some s → is_built_create s ≡ false → TextMakesNone catalog text
-unbuilt_read catalog text s read unbuilt create definition makes is =
-    let same = ap is_built_create (statement_read text s create read makes.passes.formed is) in
-    absurd (other (is_built_create s) unbuilt (same ∙ makes.built))
-  where
-    other : (b : Bool) → b ≡ false → b ≡ true → ⊥
-    other b x y = cc
-
 -- a text that is not the canonical one
 pub other_text : (catalog : Catalog) (text : List ℕ) (s : Statement) → statement_in text ≡ Some s → statement_text s ≢ text → TextMakesNone catalog text
-other_text catalog text s read other create definition makes is = other (ap statement_text (statement_read text s create read makes.passes.formed is) ∙ sym is)
+other_text catalog text s read other create definition makes is = other (ap statement_text (statement_read text s create read makes.formed is) ∙ sym is)
 
 -- a text of a statement that is refused
 undefined_read : (catalog : Catalog) (text : List ℕ) (s : Statement) → statement_in text ≡ Some s → ((definition : Definition) → Defines catalog s definition → ⊥) → TextMakesNone catalog text
 undefined_read catalog text s read none create definition makes is =
-    absurd (none definition (subst (λ (t : Statement). Defines catalog t definition) (sym (statement_read text s create read makes.passes.formed is)) makes.passes.defines))
+    absurd (none definition (subst (λ (t : Statement). Defines catalog t definition) (sym (statement_read text s create read makes.formed is)) makes.defines))
 
 refused_or : {A : Type 0} (r : Result A Refusal) (refusal : Refusal) (def : A) → r ≡ Err refusal → r ≡ Ok def → ⊥
 refused_or r refusal def x y = cc
@@ -78,11 +59,25 @@ refused_table_read catalog text made refusal read refused = undefined_read catal
 pub refused_view_read : (catalog : Catalog) (text : List ℕ) (made : CreateView) (refusal : Refusal) → statement_in text ≡ Some (statement.CreateView made) → defined_view catalog made ≡ Err refusal → TextMakesNone catalog text
 refused_view_read catalog text made refusal read refused = undefined_read catalog text (statement.CreateView made) read (refused_view catalog made refusal refused)
 
+-- a text of a statement that makes neither a table nor a view
+no_definition : (catalog : Catalog) (s : Statement) → ((made : CreateTable) → s ≢ statement.CreateTable made) → ((made : CreateView) → s ≢ statement.CreateView made) → (definition : Definition) → Defines catalog s definition → ⊥
+no_definition catalog (statement.CreateTable made) table view definition defines = table made refl
+no_definition catalog (statement.CreateView made) table view definition defines = view made refl
+no_definition catalog (statement.Insert brought) table view definition defines = defines
+no_definition catalog (statement.Query asked) table view definition defines = defines
+no_definition catalog (statement.ShowParts asked) table view definition defines = defines
+no_definition catalog (statement.Optimize asked) table view definition defines = defines
+no_definition catalog statement.FlushQueue table view definition defines = defines
+
+pub neither_read : (catalog : Catalog) (text : List ℕ) (s : Statement) → statement_in text ≡ Some s → ((made : CreateTable) → s ≢ statement.CreateTable made) → ((made : CreateView) → s ≢ statement.CreateView made)
+    → TextMakesNone catalog text
+neither_read catalog text s read table view = undefined_read catalog text s read (no_definition catalog s table view)
+
 -- a text of a statement that is accepted
-pub accepted_read : (catalog : Catalog) (text : List ℕ) (s : Statement) (definition : Definition) → statement_in text ≡ Some s → is_built_create s ≡ true → statement_text s ≡ text → Defines catalog s definition
+pub accepted_read : (catalog : Catalog) (text : List ℕ) (s : Statement) (definition : Definition) → statement_in text ≡ Some s → statement_text s ≡ text → Defines catalog s definition
     → TextMakes catalog text definition
-accepted_read catalog text s definition read built written defines =
-    (s, record { built = built; passes = record { formed = read_formed text s read; defines = defines } }, sym written)
+accepted_read catalog text s definition read written defines =
+    (s, record { formed = read_formed text s read; defines = defines }, sym written)
 
 -- what a test says of two texts
 pub differs : (xs ys : List ℕ) (ne : Bool) → ne ≡ not (bytes_eq xs ys) → ne ≡ true → xs ≢ ys

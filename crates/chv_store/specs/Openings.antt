@@ -1,12 +1,12 @@
 -- What the opening of a store finds.
-use Rattle.std.specs.Prelude.{ℕ, ◌≡◌, ◌≢◌, ◌⊎◌, true, List, map, Option, None, Some, Result, Ok, Err}
+use Rattle.std.specs.Prelude.{ℕ, ◌≡◌, ◌≢◌, ◌⊎◌, List, map, Option, None, Some, Result, Ok, Err}
 use Rattle.chv_ast.specs.declared.statement.Statement.{Statement}
 use Rattle.chv_catalog.specs.Schemas.{Catalog}
 use Rattle.chv_catalog.specs.declared.definition.Definition.{Definition}
 use Rattle.chv_catalog.specs.declared.table_def.TableDef.{TableDef}
 use Rattle.chv_commit.specs.Commits.{commit_spelling}
 use Rattle.chv_commit.specs.declared.commit.Commit.{Commit}
-use Rattle.chv_query.specs.Accepted.{Accepted, IsAccepted, IsSchema, is_built_create, catalog_of, catalog_payload}
+use Rattle.chv_query.specs.Accepted.{Accepted, IsAccepted, IsSchema, catalog_of, catalog_payload}
 use Rattle.chv_gate.specs.GateLog.{HasFrames, IsReady}
 use Rattle.chv_gate.specs.Reading.{IsOpen, IsFollowed}
 use Rattle.chv_gate.specs.declared.fault.GateFault.{GateFault}
@@ -28,10 +28,9 @@ use Rattle.chv_store.specs.declared.catalog.DefinitionRead.{DefinitionRead}
 use Rattle.chv_store.specs.declared.fault.OpenFault.{OpenFault}
 use Rattle.chv_store.specs.declared.store.Store.{Store}
 
--- a statement makes this beside what a catalog has: it is built, and no check refuses it
-pub record MakesDefinition (catalog : Catalog) (create : Statement) (definition : Definition) : Type 0 where
-  pub built : is_built_create create ≡ true
-  pub passes : IsAccepted catalog (record { statement = create; definition = definition })
+-- a statement makes this beside what a catalog has: no check refuses it
+abbrev pub MakesDefinition : Catalog → Statement → Definition → Type 0
+MakesDefinition catalog create definition = IsAccepted catalog (record { statement = create; definition = definition })
 
 -- a text is the canonical one of a statement that makes this
 abbrev pub TextMakes : Catalog → List ℕ → Definition → Type 0

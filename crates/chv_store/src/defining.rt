@@ -7,7 +7,7 @@ ghost use Rattle.chv_store.specs.Openings.{TextMakes, TextMakesNone};
 use crate::reading::read;
 use chv_ast::{CreateTable, CreateView, Statement};
 use chv_catalog::{Definition, Schema, StatementFault};
-use chv_define::{define, define_view, is_built_table};
+use chv_define::{define, define_view};
 use std::alloc::{AllocError, Global};
 
 /// What a canonical text makes beside the tables and views that stand; None for each other text, be it other by a single
@@ -44,7 +44,7 @@ fn made_by(
     }
 }
 
-// The table that a statement makes, where it is built and the text that it was read from is its canonical text.
+// The table that a statement makes, where the text that it was read from is its canonical text.
 fn table_of(
     alloc: Global,
     schema: &Schema,
@@ -55,9 +55,6 @@ fn table_of(
     ensures none { IfOk result (λ read. IfNone read (TextMakesNone schema.now.catalog text.now)) }
     ensures some { IfOk result (λ read. IfSome read (λ definition. TextMakes schema.now.catalog text.now definition)) }
 {
-    if !is_built_table(made) {
-        return Ok(None);
-    }
     match define(alloc, schema, made) {
         Ok(table) => {
             if table.text.as_slice() != text {

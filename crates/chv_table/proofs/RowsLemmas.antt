@@ -5,11 +5,13 @@ use Rattle.std.proofs.lemmas.Bool.{cases_lt}
 use Rattle.std.proofs.lemmas.Grind.{flat_map-append}
 use Rattle.std.proofs.lemmas.List.{get_or_at, get_or_append_left, length-append, take-append-drop, drop_more, take_more}
 use Rattle.std.proofs.lemmas.List.Elements.{All-weaker, All-get_or, All-more}
+use Rattle.chv_block.specs.Spellings.{AllAreOf}
 use Rattle.chv_site.specs.declared.file_id.FileId.{FileId}
 use Rattle.chv_site.specs.FileIds.{part_of}
 use Rattle.chv_site.specs.Files.{FileState}
 use Rattle.chv_commit.specs.declared.part_row.PartRow.{PartRow}
 use Rattle.chv_sip.specs.BlockIds.{keyed_hash, first_key}
+use Rattle.chv_types.specs.declared.kind.Kind.{Kind}
 use Rattle.chv_types.specs.declared.value.Value.{Value}
 use Rattle.chv_part.specs.Books.{TableForm, Book, part_rows}
 use Rattle.chv_part.specs.Parts.{framed, IsPartFile, HashDiffers, IsWhole}
@@ -25,6 +27,11 @@ use Rattle.chv_table.specs.declared.table.Table.{Table}
 -- the live part at a place
 abbrev pub row_at : List PartRow → ℕ → PartRow
 row_at layout place = get_or layout place (record { lo = 0; hi = 0; level = 0; part = 0; rows = 0 })
+
+-- rows of kinds, and others behind them
+pub AllAreOf-append : (kinds : List Kind) (a b : List (List Value)) → AllAreOf kinds a → AllAreOf kinds b → AllAreOf kinds (a ++ b)
+AllAreOf-append kinds [] b of_a of_b = of_b
+AllAreOf-append kinds (row ∷ a) b of_a of_b = (of_a.0, AllAreOf-append kinds a b of_a.1 of_b)
 
 -- the rows of one part more
 pub rows_more : (table : Table) (files : FileId → FileState) (book : Book) (place : ℕ) (rows read : List (List Value)) → HoldsBook table files book

@@ -14,7 +14,7 @@ ghost use Rattle.chv_table.specs.Faults.{part_fault_of};
 ghost use Rattle.chv_table.specs.Tables.{IsWithin, HoldsBook, held_form, held_state};
 
 use crate::{Table, TableFault};
-use chv_merge::normal;
+use chv_merge::normal_by;
 use chv_part::{Damage, PartFault, read_part};
 use chv_site::{FileId, Site};
 use chv_types::{Block, Kinds, Row};
@@ -34,7 +34,13 @@ impl Table {
         ensures keeps { OnlyReads W.tells (IsErrOf result TableFault.Failed) (W.outside site.old) (W.outside site.new) }
     {
         let rows = self.read_parts(alloc, site)?;
-        Ok(normal(&self.key, Block::from_vec(rows))?)
+        Ok(normal_by(
+            alloc,
+            self.engine,
+            &self.kinds,
+            &self.key,
+            Block::from_vec(rows),
+        )?)
     }
 
     // The rows of all live parts, part by part.

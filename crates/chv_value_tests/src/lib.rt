@@ -14,6 +14,8 @@ mod kinds;
 #[cfg(test)]
 mod making;
 #[cfg(test)]
+mod merges;
+#[cfg(test)]
 mod normal_forms;
 #[cfg(test)]
 mod order;

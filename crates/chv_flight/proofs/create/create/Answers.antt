@@ -13,13 +13,13 @@ pub make-requires-clause-makes : goal.make-requires-clause-makes
 make-requires-clause-makes g c =
     let store = c.args.store.now in
     let is : defined store.schema.catalog c.args.made.now ≡ Ok c.in-Ok.table.def = subst (λ (schema : Schema). defined schema.catalog c.args.made.now ≡ Ok c.in-Ok.table.def) c.schema.ensures c.in-Ok.ensures.defined in
-    (statement.CreateTable c.args.made.now, makes_table store.schema.catalog c.args.made.now c.in-Ok.table.def c.requires.formed c.requires.built is, c.in-Ok.ensures.text)
+    (statement.CreateTable c.args.made.now, makes_table store.schema.catalog c.args.made.now c.in-Ok.table.def c.requires.formed is, c.in-Ok.ensures.text)
 
 pub returns-in-Ok-clause-answers : goal.returns-in-Ok-clause-answers
 returns-in-Ok-clause-answers g c =
     let store = c.args.store.now in
     let is : defined store.schema.catalog c.args.made.now ≡ Ok c.in-Ok.table.def = subst (λ (schema : Schema). defined schema.catalog c.args.made.now ≡ Ok c.in-Ok.table.def) c.schema.ensures c.in-Ok.ensures.defined in
-    c.make.ensures.answers c.args.made.now (makes_table store.schema.catalog c.args.made.now c.in-Ok.table.def c.requires.formed c.requires.built is) (c.in-Ok.ensures.text)
+    c.make.ensures.answers c.args.made.now (makes_table store.schema.catalog c.args.made.now c.in-Ok.table.def c.requires.formed is) (c.in-Ok.ensures.text)
 
 pub returns-in-Err-Refused-clause-answers : goal.returns-in-Err-Refused-clause-answers
 returns-in-Err-Refused-clause-answers g c =

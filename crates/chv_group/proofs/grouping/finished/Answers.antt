@@ -1,4 +1,4 @@
-use Rattle.std.proofs.Common.{◌≡◌, ◌∙◌, ◌&&◌, List, ap, sym}
+use Rattle.std.proofs.Common.{◌∙◌, ◌&&◌, List, ap, sym}
 use Rattle.std.proofs.lemmas.List.Sorted.{All-permutation}
 use Rattle.std.proofs.lemmas.Result.{IfOk-weaker}
 use Rattle.chv_group.proofs.FinishLemmas.{grouped-none, grouped-rows}

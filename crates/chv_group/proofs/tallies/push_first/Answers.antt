@@ -1,4 +1,4 @@
-use Rattle.std.proofs.Common.{◌≡◌, ◌∙◌, ◌++◌, List, ap, append-nil, length, map, subst, sym, take, take_all}
+use Rattle.std.proofs.Common.{◌∙◌, ◌++◌, List, ap, append-nil, length, map, subst, sym, take, take_all}
 use Rattle.std.proofs.lemmas.List.{length-map}
 use Rattle.chv_agg.specs.declared.any_agg.AnyAgg.{AnyAgg}
 use Rattle.chv_group.proofs.TallyLemmas.{TakesArguments-length, first-end, first-over-step, first-step, takes-at}

@@ -1,4 +1,4 @@
-use Rattle.std.proofs.Common.{◌≡◌, ◌∙◌, ◌+◌, get_or, length, refl}
+use Rattle.std.proofs.Common.{◌∙◌, ◌+◌, length, refl}
 use Rattle.std.proofs.lemmas.List.{length-set}
 use Rattle.chv_group.proofs.PartLemmas.{KeepsOthers-itself, KeepsOthers-set, length-part}
 use Rattle.chv_group.proofs.TallyLemmas.{out-left, out-taken, over-at, value-end, value-step}

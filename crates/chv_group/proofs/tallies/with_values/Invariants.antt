@@ -1,4 +1,4 @@
-use Rattle.std.proofs.Common.{◌≡◌, ◌+◌, ◌≤◌, ◌++◌, drop, length}
+use Rattle.std.proofs.Common.{◌≡◌, ◌+◌, ◌++◌, drop, length}
 use Rattle.chv_group.specs.Tallies.{KeepsOthers, part, values_of}
 use Rattle.chv_group.proofs.tallies.with_values.Given as goal
 

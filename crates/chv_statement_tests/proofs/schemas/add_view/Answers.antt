@@ -5,4 +5,4 @@ use Rattle.chv_statement_tests.proofs.schemas.add_view.Goals as goal
 
 pub put-requires-clause-accepted : goal.put-requires-clause-accepted
 put-requires-clause-accepted c =
-    (record { statement = statement.CreateView c.args.made; definition = View c.in-Ok.view.def }, refl, refl, record { formed = c.requires.formed; defines = c.in-Ok.ensures.defined })
+    (record { statement = statement.CreateView c.args.made; definition = View c.in-Ok.view.def }, refl, record { formed = c.requires.formed; defines = c.in-Ok.ensures.defined })

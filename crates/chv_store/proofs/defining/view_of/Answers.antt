@@ -1,5 +1,5 @@
 -- The view that a canonical text makes.
-use Rattle.std.proofs.Common.{refl, sym, ◌∙◌}
+use Rattle.std.proofs.Common.{sym, ◌∙◌}
 use Rattle.chv_ast.specs.declared.statement.Statement.TheVariants as statement
 use Rattle.chv_catalog.specs.declared.definition.Definition.TheVariants.{View}
 use Rattle.chv_store.proofs.DefineLemmas.{other_text, refused_view_read, accepted_read, differs, is_same}
@@ -11,7 +11,7 @@ returns-then-ne-clause-none c =
 
 pub returns-else-ne-clause-some : goal.returns-else-ne-clause-some
 returns-else-ne-clause-some c =
-    accepted_read c.args.schema.now.catalog c.args.text.now (statement.CreateView c.args.made) (View c.in-Ok.view.def) c.requires.read refl (sym (c.as_slice.ensures.value ∙ c.in-Ok.ensures.text) ∙ is_same c.as_slice.result.now c.args.text.now c.ne.result c.ne.ensures c.if-ne.false) c.in-Ok.ensures.defined
+    accepted_read c.args.schema.now.catalog c.args.text.now (statement.CreateView c.args.made) (View c.in-Ok.view.def) c.requires.read (sym (c.as_slice.ensures.value ∙ c.in-Ok.ensures.text) ∙ is_same c.as_slice.result.now c.args.text.now c.ne.result c.ne.ensures c.if-ne.false) c.in-Ok.ensures.defined
 
 pub returns-in-Err-Refused-clause-none : goal.returns-in-Err-Refused-clause-none
 returns-in-Err-Refused-clause-none c =

@@ -7,12 +7,12 @@ use Rattle.chv_site.specs.Files.{FileState}
 use Rattle.chv_site.specs.Outside.{bytes_in}
 use Rattle.chv_commit.specs.declared.part_row.PartRow.{PartRow}
 use Rattle.chv_part.specs.Parts.{IsPartFile}
-use Rattle.chv_part.proofs.BookRowLemmas.{AllAreOf-append, rows_of_parts}
+use Rattle.chv_part.proofs.BookRowLemmas.{rows_of_parts}
 use Rattle.chv_table.specs.Damage.{ArePartsWhole, IsDamageOfPart}
 use Rattle.chv_table.specs.Tables.{held_form}
 use Rattle.chv_table.specs.declared.fault.TableFault.{TableFault}
 use Rattle.chv_gate.proofs.EffectLemmas.{reads_on}
-use Rattle.chv_table.proofs.RowsLemmas.{row_at, rows_more, whole_more, first_damaged}
+use Rattle.chv_table.proofs.RowsLemmas.{AllAreOf-append, row_at, rows_more, whole_more, first_damaged}
 use Rattle.chv_table.proofs.table.Table.read_parts.Goals as goal
 
 pub returns-in_err-read-clause-damaged : goal.returns-in_err-read-clause-damaged

@@ -1,7 +1,7 @@
 -- The rows of all parts have the normal form of all rows; and what ends the reading of the parts ends that of the rows.
 use Rattle.std.proofs.Common.{◌≡◌, ◌∙◌, Err, sym, ap}
 use Rattle.std.proofs.lemmas.Result.{err_from_is_err_and}
-use Rattle.chv_part.proofs.BookRowLemmas.{AllAreOf-normal_form, rows_of_parts-normal_form}
+use Rattle.chv_part.proofs.BookRowLemmas.{rows_of_parts-normal}
 use Rattle.chv_table.specs.Tables.{held_form}
 use Rattle.chv_table.specs.declared.fault.TableFault.{TableFault}
 use Rattle.chv_table.proofs.table.Table.rows.Goals as goal
@@ -15,10 +15,5 @@ returns-in_err-rows-clause-damaged g c = λ tells damage is.
 pub returns-clause-rows : goal.returns-clause-rows
 returns-clause-rows g c = λ tells book held.
     let table = c.args.self.now in
-    rw (c.in_ok-normal.ensures, c.from_vec.ensures, c.in_ok-rows.ensures.rows tells book held)
-    (rows_of_parts-normal_form (held_form table) book table.replay.state.layout held.lawful.runs held.describes.layout)
-
-pub returns-clause-kinds : goal.returns-clause-kinds
-returns-clause-kinds g c =
-    let table = c.args.self.now in
-    rw (c.in_ok-normal.ensures, c.from_vec.ensures) (AllAreOf-normal_form table.kinds table.key c.in_ok-rows.rows.items c.in_ok-rows.ensures.kinds)
+    rw (c.in_ok-normal_by.ensures.rows, c.from_vec.ensures, c.in_ok-rows.ensures.rows tells book held)
+    (rows_of_parts-normal (held_form table) book table.replay.state.layout held.lawful.runs held.describes.layout)
