@@ -1,5 +1,5 @@
 -- Live parts that cut the entries into runs, and parts of them that become one.
-use Rattle.std.proofs.Common.{◌≡◌, ◌≢◌, ◌⊎◌, inl, inr, ◌+◌, ◌-◌, ◌<◌, ◌≤◌, ◌++◌, ◌∷◌, [], ◌∙◌, ◌&&◌, ℕ, zero, suc, Bool, true, false, nat_eq, nat_lt, List, Some, length, map, take, drop, get_or, slice_range, sym, ap, ap₂, arith, refl, length-append, length-drop, take-append-drop}
+use Rattle.std.proofs.Common.{◌≡◌, ◌≢◌, ◌⊎◌, inl, inr, ◌+◌, ◌-◌, ◌<◌, ◌≤◌, ◌++◌, ◌∷◌, [], ◌∙◌, ◌&&◌, ℕ, zero, suc, Bool, true, false, nat_eq, nat_lt, List, Some, length, map, take, drop, get_or, slice_range, sym, ap, ap₂, subst, arith, refl, length-append, length-drop, take-append-drop}
 use Rattle.std.proofs.lemmas.Bool.{eqb-true, eq-eqb, ltb-true, lt-ltb, cases_lt}
 use Rattle.std.proofs.lemmas.Bool.Decides.{nat_tests}
 use Rattle.std.proofs.lemmas.Option.{cond_some}
@@ -49,6 +49,36 @@ pub both : (a b : Bool) → (a && b) ≡ true → (a ≡ true) × (b ≡ true)
 both true b e = (refl, e)
 both false b e = cc
 
+-- the parts from one place to before another, of which there are two or more, become a part that begins and ends as they do
+pub IsJoined-range : (row : PartRow) (old : List PartRow) (from to : ℕ) → from + 2 ≤ to → to ≤ length old → row.lo ≡ (get_or old from row).lo
+    → row.hi ≡ (get_or old (to - 1) row).hi → row.level ≡ greatest_level (slice_range old from to) + 1 → IsJoined row old (take from old ++ row ∷ drop to old)
+IsJoined-range row old from to order inside lo hi level =
+    let size : ℕ = to - from in
+    let run : List PartRow = slice_range old from to in
+    let rest : drop size (drop from old) ≡ drop to old = drop-drop size from old ∙ ap (λ (n : ℕ). drop n old) (omega arith) in
+    let long : length run ≡ size = length-take-le size (drop from old) (omega (arith, length-drop from old)) in
+    let in_run : (k n : ℕ) → k < size → from + k ≡ n → get_or run k row ≡ get_or old n row =
+    λ k n within is. get_or-take size (drop from old) k row within ∙ get_or-drop from old k row ∙ ap (λ (place : ℕ). get_or old place row) is in
+    record {
+      front = take from old;
+      run = run;
+      behind = drop to old;
+      old_is = sym (take-append-drop from old)
+          ∙ ap (λ (xs : List PartRow). take from old ++ xs) (sym (take-append-drop size (drop from old)) ∙ ap (λ (xs : List PartRow). run ++ xs) rest);
+      new_is = refl;
+      several = omega (arith, long);
+      begins = ap (λ (part : PartRow). part.lo) (in_run 0 from (omega arith) (omega arith)) ∙ sym lo;
+      ends = ap (λ (part : PartRow). part.hi) (in_run (length run - 1) (to - 1) (omega (arith, long)) (omega (arith, long))) ∙ sym hi;
+      level = level;
+    }
+
+-- and those are the parts
+pub IsJoined-range-run : (row : PartRow) (old : List PartRow) (from to : ℕ) (order : from + 2 ≤ to) (inside : to ≤ length old) (lo : row.lo ≡ (get_or old from row).lo)
+    (hi : row.hi ≡ (get_or old (to - 1) row).hi) (level : row.level ≡ greatest_level (slice_range old from to) + 1)
+    → (IsJoined-range row old from to order inside lo hi level).run ≡ slice_range old from to
+unfolding IsJoined-range
+IsJoined-range-run row old from to order inside lo hi level = refl
+
 -- what parts that become one are
 pub joined-Some : (row : PartRow) (old new : List PartRow) → joined row old ≡ Some new → IsJoined row old new
 joined-Some row old new e =
@@ -61,24 +91,10 @@ joined-Some row old new e =
     let before : from < last = ltb-true from last tests.0 in
     let at_from = position-Some (λ (part : PartRow). nat_eq part.lo row.lo) old from row begin.1 in
     let at_last = position-Some (λ (part : PartRow). nat_eq part.hi row.hi) old last row end.1 in
-    let size : ℕ = last + 1 - from in
-    let run : List PartRow = slice_range old from (last + 1) in
-    let rest : drop size (drop from old) ≡ drop (last + 1) old = drop-drop size from old ∙ ap (λ (n : ℕ). drop n old) (omega arith) in
-    let long : length run ≡ size = length-take-le size (drop from old) (omega (arith, length-drop from old, at_last.0)) in
-    let in_run : (k n : ℕ) → k < size → from + k ≡ n → get_or run k row ≡ get_or old n row =
-    λ k n inside is. get_or-take size (drop from old) k row inside ∙ get_or-drop from old k row ∙ ap (λ (place : ℕ). get_or old place row) is in
-    record {
-      front = take from old;
-      run = run;
-      behind = drop (last + 1) old;
-      old_is = sym (take-append-drop from old)
-          ∙ ap (λ (xs : List PartRow). take from old ++ xs) (sym (take-append-drop size (drop from old)) ∙ ap (λ (xs : List PartRow). run ++ xs) rest);
-      new_is = sym fits.1;
-      several = omega (arith, long);
-      begins = ap (λ (part : PartRow). part.lo) (in_run 0 from (omega arith) (omega arith)) ∙ eqb-true _ _ at_from.1;
-      ends = ap (λ (part : PartRow). part.hi) (in_run (length run - 1) last (omega (arith, long)) (omega (arith, long))) ∙ eqb-true _ _ at_last.1;
-      level = eqb-true _ _ tests.1;
-    }
+    let before_end : last + 1 - 1 ≡ last = omega arith in
+    subst (IsJoined row old) fits.1
+    (IsJoined-range row old from (last + 1) (omega arith) (omega (arith, at_last.0)) (sym (eqb-true _ _ at_from.1))
+    (sym (eqb-true _ _ at_last.1) ∙ ap (λ (n : ℕ). (get_or old n row).hi) (sym before_end)) (eqb-true _ _ tests.1))
 
 -- the runs of parts that become one, and of those in front of them and behind them
 pub record HasRuns (row : PartRow) (last : ℕ) (front run behind : List PartRow) : Type 0 where

@@ -47,6 +47,12 @@ module _ {X : Type 0} where
       (All-replaced (R y) x front run behind (All-head (λ (z : X). R z x) y front to_front) (AllPairs-head R y (front ++ (run ++ behind)) all))
       (AllPairs-replaced R x front run behind (All-tail (λ (z : X). R z x) y front to_front) to_behind (AllPairs-tail R y (front ++ (run ++ behind)) all))
 
+  -- each of the first is related to each behind them
+  AllPairs-cross : (R : X → X → Type 0) (xs ys : List X) → AllPairs R (xs ++ ys) → All (λ (x : X). All (R x) ys) xs
+  AllPairs-cross R [] ys all = All-nil (λ (x : X). All (R x) ys)
+  AllPairs-cross R (x ∷ xs) ys all =
+      All-cons (λ (y : X). All (R y) ys) x xs (All-behind (R x) xs ys (AllPairs-head R x (xs ++ ys) all)) (AllPairs-cross R xs ys (AllPairs-tail R x (xs ++ ys) all))
+
 -- before the first commit
 pub IsSound-no_state : IsSound no_state
 IsSound-no_state = record {
@@ -119,6 +125,24 @@ IsSound-merged row old layout held in_turn is =
       bounded = held.bounded;
       counted = omega (arith, held.counted, length-joined row old.layout layout is);
     }
+
+-- the live parts behind a merge are none of those that became one
+pub IsJoined-apart : (row : PartRow) (old : State) (layout : List PartRow) → IsSound old → row.part ≡ old.next_part → (is : IsJoined row old.layout layout)
+    → All (λ (stays : PartRow). All (λ (gone : PartRow). stays.part ≢ gone.part) is.run) layout
+IsJoined-apart row old layout held in_turn is =
+    let IsApart : PartRow → Type 0 = λ stays. All (λ (gone : PartRow). stays.part ≢ gone.part) is.run in
+    let Differ : PartRow → PartRow → Type 0 = λ a b. a.part ≢ b.part in
+    let IsOld : PartRow → Type 0 = λ r. (8 ≤ r.part) × (r.part < old.next_part) in
+    let all : AllPairs Differ (is.front ++ (is.run ++ is.behind)) = subst (AllPairs Differ) is.old_is held.apart in
+    let run_parts : All IsOld is.run =
+    All-front IsOld is.run is.behind (All-behind IsOld is.front (is.run ++ is.behind) (subst (All IsOld) is.old_is held.parts)) in
+    let to_behind : All (λ (gone : PartRow). All (Differ gone) is.behind) is.run = AllPairs-cross Differ is.run is.behind (AllPairs-behind Differ is.front (is.run ++ is.behind) all) in
+    subst (All IsApart) (sym is.new_is)
+    (All-append IsApart is.front (row ∷ is.behind)
+    (All-weaker (λ (stays : PartRow). All (Differ stays) (is.run ++ is.behind)) IsApart (λ stays apart. All-front (Differ stays) is.run is.behind apart) is.front
+    (AllPairs-cross Differ is.front (is.run ++ is.behind) all))
+    (All-cons IsApart row is.behind (λ k d inside e. absurd (omega (arith, e, in_turn, (run_parts k d inside).1)))
+    (λ k d inside j e within same. to_behind j e within k d inside (sym same))))
 
 -- a commit that is taken keeps what holds
 pub IsSound-taken : (window : ℕ) (old new : State) (commit : Commit) → IsSound old → taken window old commit ≡ Some new → IsSound new

@@ -36,6 +36,10 @@ added window part rows ids state = record {
   ids = last_ids window (state.ids ++ ids);
 }
 
+-- the commit of parts that become this one
+abbrev pub merge_of : PartRow → Commit
+merge_of row = Merge row.lo row.hi row.part row.level row.rows
+
 -- the greatest level of parts
 abbrev pub greatest_level : List PartRow → ℕ
 greatest_level [] = 0

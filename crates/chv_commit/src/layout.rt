@@ -1,6 +1,7 @@
 // Live parts that become one.
 ghost use Rattle.std.specs.Prelude.{◌≡◌, ◌+◌, ◌≤◌, ◌<◌, ◌++◌, true, false, length, nat_eq, take, drop, if◌then◌else◌, None, Some};
 ghost use Rattle.std.specs.List.{position};
+ghost use Rattle.std.specs.Vec.{vec_capacity};
 ghost use Rattle.chv_commit.specs.Replays.{greatest_level, joined};
 
 use crate::PartRow;
@@ -11,6 +12,7 @@ pub fn join(layout: &mut Vec<PartRow>, row: PartRow) -> bool
     ensures joined { joined row layout.old.items ≡ (if result then Some layout.new.items else None) }
     ensures kept { result ≡ false → layout.new ≡ layout.old }
     ensures fewer { result ≡ true → length layout.new.items + 1 ≤ length layout.old.items }
+    ensures room { vec_capacity layout.old ≤ vec_capacity layout.new }
 {
     let Some(from) = beginning_at(layout.as_slice(), row.lo) else {
         return false;
@@ -47,8 +49,8 @@ fn is_above(rows: &[PartRow], level: u64) -> bool
     level != 0 && greatest_level(rows) == level - 1
 }
 
-// The greatest level of parts.
-fn greatest_level(rows: &[PartRow]) -> u64
+/// The greatest level of parts.
+pub fn greatest_level(rows: &[PartRow]) -> u64
     ensures { result ≡ greatest_level rows.now }
 {
     let mut greatest = 0;
@@ -61,7 +63,8 @@ fn greatest_level(rows: &[PartRow]) -> u64
 // Removes the parts from one place to before another.
 fn cut(layout: &mut Vec<PartRow>, from: usize, to: usize)
     requires { (from ≤ to) × (to ≤ length layout.old.items) }
-    ensures { layout.new.items ≡ take from layout.old.items ++ drop to layout.old.items }
+    ensures items { layout.new.items ≡ take from layout.old.items ++ drop to layout.old.items }
+    ensures room { vec_capacity layout.old ≤ vec_capacity layout.new }
 {
     layout.drain(from..to);
 }

@@ -1,8 +1,8 @@
 // What a table's log says, commit by commit.
 ghost use Rattle.std.specs.List.{Contains};
 ghost use Rattle.std.specs.Prelude.{◌≡◌, ◌↔◌, ◌+◌, ◌*◌, ◌<◌, ◌≤◌, ◌^◌, ◌∷◌, [], false, length, if◌then◌else◌, None, Some, IfOk, IsTrue, OnOk, OnErr};
-ghost use Rattle.chv_commit.specs.Replays.{MAX_ENTRIES, no_state, add_fits, added, taken};
-ghost use Rattle.chv_commit.specs.declared.commit.Commit.TheVariants.{Add, Merge};
+ghost use Rattle.chv_commit.specs.Replays.{MAX_ENTRIES, no_state, add_fits, added, merge_of, taken};
+ghost use Rattle.chv_commit.specs.declared.commit.Commit.TheVariants.{Add};
 
 use crate::layout::join;
 use crate::{Commit, Ids, PartRow};
@@ -99,6 +99,21 @@ impl Replay {
         self.put(rows, &[id]);
     }
 
+    /// Takes parts that become this one. It answers false exactly where they do not fit, and then nothing changed. It takes no
+    /// memory.
+    pub fn take_merge(&mut self, row: PartRow) -> bool
+        ensures taken { taken self.old.window self.old.state (merge_of row) ≡ (if result then Some self.new.state else None) }
+        ensures kept { result ≡ false → self.new ≡ self.old }
+        ensures window { self.new.window ≡ self.old.window }
+        ensures spare { self.old.spare ≤ self.new.spare }
+    {
+        if row.part != self.next_part || !join(&mut self.layout, row) {
+            return false;
+        }
+        self.next_part += 1;
+        true
+    }
+
     // Takes new entries.
     fn take_add(&mut self, part: u64, rows: u64, ids: &[BlockId]) -> Result<bool, AllocError>
         ensures taken { IfOk result (λ fits. taken self.old.window self.old.state (Add part rows ids.now) ≡ (if fits then Some self.new.state else None)) }
@@ -135,19 +150,6 @@ impl Replay {
         self.entries += count;
         self.next_part += 1;
         self.ids.extend_from_slice(ids);
-    }
-
-    // Takes parts that become one.
-    fn take_merge(&mut self, row: PartRow) -> bool
-        ensures taken { taken self.old.window self.old.state (Merge row.lo row.hi row.part row.level row.rows) ≡ (if result then Some self.new.state else None) }
-        ensures kept { result ≡ false → self.new ≡ self.old }
-        ensures window { self.new.window ≡ self.old.window }
-    {
-        if row.part != self.next_part || !join(&mut self.layout, row) {
-            return false;
-        }
-        self.next_part += 1;
-        true
     }
 
     /// The live parts in order, each behind the entries of the one before.

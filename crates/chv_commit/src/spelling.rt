@@ -3,9 +3,10 @@ ghost use Rattle.std.specs.Prelude.{◌≡◌, ◌++◌, ◌∷◌, [], ◌<◌,
 ghost use Rattle.std.specs.Int.{w32, to_le_bytes};
 ghost use Rattle.std.specs.List.{flat_map};
 ghost use Rattle.chv_commit.specs.Commits.{commit_spelling, id_spelling, IsCommit};
+ghost use Rattle.chv_commit.specs.Replays.{merge_of};
 ghost use Rattle.chv_commit.specs.declared.commit.Commit.TheVariants.{Add, Merge};
 
-use crate::Commit;
+use crate::{Commit, PartRow};
 use chv_sip::BlockId;
 use sqlite_items::Items;
 use std::alloc::{AllocError, Global};
@@ -46,6 +47,22 @@ pub fn frame_of_one(part: u64, rows: u64, id: BlockId) -> [u8; 42]
     frame[21] = 1;
     frame[25..33].copy_from_slice(&id.first.to_le_bytes());
     frame[33..41].copy_from_slice(&id.second.to_le_bytes());
+    frame
+}
+
+/// The payload of parts that become one behind its length, 41 bytes, and a closed gate behind it: the entries from the first
+/// to the last, the part, its level and the number of its rows. It takes no memory.
+pub fn frame_of_merge(row: &PartRow) -> [u8; 46]
+    ensures { result ≡ to_le_bytes w32 41 ++ commit_spelling (merge_of row.now) ++ 0 ∷ [] }
+{
+    let mut frame = [0; 46];
+    frame[0] = 41;
+    frame[4] = ONE_PART;
+    frame[5..13].copy_from_slice(&row.lo.to_le_bytes());
+    frame[13..21].copy_from_slice(&row.hi.to_le_bytes());
+    frame[21..29].copy_from_slice(&row.part.to_le_bytes());
+    frame[29..37].copy_from_slice(&row.level.to_le_bytes());
+    frame[37..45].copy_from_slice(&row.rows.to_le_bytes());
     frame
 }
 

@@ -6,6 +6,8 @@ mod gate;
 #[cfg(test)]
 mod making;
 #[cfg(test)]
+mod merging;
+#[cfg(test)]
 mod opening;
 #[cfg(test)]
 mod part;

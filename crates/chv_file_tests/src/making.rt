@@ -105,6 +105,7 @@ pub fn are_delivered(
     requires within { IsWithin table.old }
     requires placed { IsPlaced table.old (files_of site.old) }
     ensures within { result ≡ true → IsWithin table.new }
+    ensures placed { result ≡ true → IsPlaced table.new (files_of site.new) }
 {
     is_delivered(site, table, numbers[0], told[0])
         && is_delivered(site, table, numbers[1], told[1])

@@ -73,7 +73,8 @@ fn are_shown(alloc: Global, rows: &Block, text: &[u8]) -> bool {
     }
 }
 
-fn has_rows(alloc: Global, site: &mut MemSite, table: &Table, text: &[u8]) -> bool
+/// Whether the rows of a table of one column of numbers have this text.
+pub fn has_rows(alloc: Global, site: &mut MemSite, table: &Table, text: &[u8]) -> bool
     requires { IsWithin table.now }
 {
     match table.rows(alloc, site) {

@@ -171,6 +171,12 @@ pub picked-AreLowest : (levels : List ℕ) → AreLowest levels (length levels) 
 picked-AreLowest levels =
     among-lowest levels (picked levels) (lowest_among levels (members nat_cmp levels) (members-Rises nat_cmp nat_cmp_total nat_cmp-IsAntisymmetric levels))
 
+-- what is picked are eight adjacent parts of one level
+pub picked-Some : (levels : List ℕ) (run : Run) → picked levels ≡ Some run → (run.count ≡ 8) × ShareLevel levels run.from run.level
+picked-Some levels run is =
+    let lowest : AreLowest levels (length levels) (Some run) = subst (AreLowest levels (length levels)) is (picked-AreLowest levels) in
+    (lowest.count, lowest.share)
+
 abbrev run_of : ℕ → ℕ → ℕ → Run
 run_of from count level = record { from = from; count = count; level = level }
 

@@ -111,7 +111,7 @@ abbrev pub rows_of_parts : TableForm → Book → List PartRow → List (List Va
 rows_of_parts form book layout = flat_map (λ (row : PartRow). part_rows form book row.lo row.hi) layout
 
 -- the rows of parts that cut the entries from one to another into runs have the normal form of the entries' rows
-rows_of_runs-normal : (form : TableForm) (book : Book) (first last : ℕ) (layout : List PartRow) → 1 ≤ first → AreRuns first last (map span_of layout)
+pub rows_of_runs-normal : (form : TableForm) (book : Book) (first last : ℕ) (layout : List PartRow) → 1 ≤ first → AreRuns first last (map span_of layout)
     → normal_rows form (rows_of_parts form book layout) ≡ normal_rows form (rows_of (slice_range book.entries (first - 1) last))
 rows_of_runs-normal form book first last [] low runs =
     let none : last - (first - 1) ≡ 0 = omega (arith, runs) in

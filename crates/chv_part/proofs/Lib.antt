@@ -2,6 +2,7 @@ pub mod BookLemmas
 pub mod BookRowLemmas
 pub mod ColumnLemmas
 pub mod FileLemmas
+pub mod MergingLemmas
 pub mod PartLemmas
 pub mod ReadingLemmas
 pub mod RoomLemmas

@@ -1,11 +1,11 @@
 -- A store in which one table has other room in memory is the same store.
-use Rattle.std.proofs.Common.{◌≡◌, ℕ, ◌+◌, ◌*◌, ◌-◌, ◌≤◌, ◌<◌, ◌^◌, List, length, map, slice_set, true, false, not, nat_lt, refl, sym, ap, subst, ◌∙◌, arith}
+use Rattle.std.proofs.Common.{◌≡◌, ℕ, ◌+◌, ◌*◌, ◌-◌, ◌≤◌, ◌<◌, List, length, map, slice_set, true, false, not, nat_lt, refl, sym, ap, subst, ◌∙◌, arith}
 use Rattle.std.proofs.lemmas.Bool.{ltb-false, ltb-true}
 use Rattle.std.specs.declared.alloc.Global.{Global}
 use Rattle.std.specs.declared.vec.Vec.{Vec}
 use Rattle.chv_catalog.specs.declared.table_def.TableDef.{TableDef}
 use Rattle.chv_commit.specs.Commits.{commit_spelling}
-use Rattle.chv_commit.specs.Replays.{MAX_ENTRIES, State}
+use Rattle.chv_commit.specs.Replays.{State, IsSound}
 use Rattle.chv_commit.specs.declared.commit.Commit.{Commit}
 use Rattle.chv_gate.specs.GateLog.{IsReady}
 use Rattle.chv_gate.specs.declared.log.Log.{Log}
@@ -36,15 +36,10 @@ same_held table = record { number = refl; form = refl; log = refl; state = refl 
 module _ (old new : Table) (kept : KeepsHeld old new) where
   within_kept : IsWithin old → IsWithin new
   within_kept within =
-      let entries = ap (λ (s : State). s.entries) kept.state in
-      let next = ap (λ (s : State). s.next_part) kept.state in
-      let layout = ap (λ (s : State). length s.layout) kept.state in
       record {
         log = ap (λ (l : Log). l.file) kept.log ∙ within.log ∙ ap table_log (sym kept.number);
         columns = subst AreColumns (sym (ap (λ (form : TableForm). form.kinds) kept.form)) within.columns;
-        first = subst (λ (n : ℕ). 8 ≤ n) (sym next) within.first;
-        bounded = subst (λ (n : ℕ). n ≤ MAX_ENTRIES) (sym entries) within.bounded;
-        counted = subst (λ (s : State). s.next_part + length s.layout ≤ 2 ^ 62 + 2 * s.entries) (sym kept.state) within.counted;
+        sound = subst IsSound (sym kept.state) within.sound;
         gate = subst (λ (l : Log). l.gate + 64 * length (held_state new).layout ≤ 64 + 256 * (held_state new).entries) (sym kept.log)
             (subst (λ (s : State). old.log.gate + 64 * length s.layout ≤ 64 + 256 * s.entries) (sym kept.state) within.gate);
       }

@@ -1,9 +1,9 @@
 -- How a table's commits, its state and its parts go on behind a new entry.
-use Rattle.std.proofs.Common.{◌≡◌, ℕ, ◌+◌, ◌<◌, ◌^◌, List, [], ◌∷◌, ◌++◌, length, get_or, map, refl, sym, ap, subst, ◌∙◌, arith, length-append}
+use Rattle.std.proofs.Common.{◌≡◌, ◌⊎◌, inl, inr, ℕ, ◌+◌, ◌<◌, ◌^◌, List, [], ◌∷◌, ◌++◌, length, get_or, map, refl, sym, ap, subst, ◌∙◌, arith, length-append}
 use Rattle.std.specs.Int.{w32, to_le_bytes}
 use Rattle.std.specs.List.{All}
 use Rattle.std.proofs.lemmas.List.{map_push}
-use Rattle.std.proofs.lemmas.List.Elements.{All-nil, All-cons, All-push}
+use Rattle.std.proofs.lemmas.List.Elements.{All-nil, All-cons, All-push, Contains-get_or}
 use Rattle.chv_site.specs.declared.file_id.FileId.{FileId}
 use Rattle.chv_site.specs.FileIds.{part_of}
 use Rattle.chv_commit.specs.Commits.{commit_spelling, IsCommit, AreWords}
@@ -22,6 +22,11 @@ use Rattle.chv_sip.specs.declared.block_id.BlockId.{BlockId}
 use Rattle.chv_sip.specs.BlockIds.{last_ids}
 use Rattle.chv_sip.proofs.LastIds.{last_ids-last_ids}
 use Rattle.chv_types.specs.declared.value.Value.{Value}
+use Rattle.chv_table.specs.Delivering.{Brings, state_after}
+use Rattle.chv_table.specs.Tables.{held_form, held_state}
+use Rattle.chv_table.specs.Turning.{IsNewPart, IsOldPart}
+use Rattle.chv_table.specs.declared.table.Delivered.TheVariants.{Written}
+use Rattle.chv_table.specs.declared.table.Table.{Table}
 
 -- the commit of one new entry
 abbrev pub commit_of : ℕ → ℕ → BlockId → Commit
@@ -58,30 +63,23 @@ Describes-added window part rows id entry state book id_is was =
           ∙ sym (map_push span_of state.layout row);
     }
 
--- the older parts have the rows that they had
-IsPart-older : (files : FileId → List ℕ) (table : ℕ) (form : TableForm) (entry : Entry) (book : Book) (layout : List PartRow)
-    → AreRuns 1 (length book.entries) (map span_of layout) → All (IsPart files table form book) layout → All (IsPart files table form (appended entry book)) layout
-IsPart-older files table form entry book layout runs parts = λ k d below.
-    let row : PartRow = get_or layout k d in
-    let was = parts k d below in
-    let same : part_rows form (appended entry book) row.lo row.hi ≡ part_rows form book row.lo row.hi =
-    part_rows-older form entry book row.lo row.hi (AreRuns-within 1 (length book.entries) layout runs k d below).2 in
-    record {
-      counted = was.counted ∙ ap length (sym same);
-      file = subst (λ (rows : List (List Value)). IsPartFile form rows (files (part_of table row.part))) (sym same) was.file;
-    }
-
--- and the new one has those of the new entry
-pub IsPart-added : (files : FileId → List ℕ) (table : ℕ) (form : TableForm) (part rows : ℕ) (id : BlockId) (entry : Entry) (state : State) (book : Book)
-    → rows ≡ length entry.rows → IsEntry form entry → Describes form.window state book → AreRuns 1 (length book.entries) book.layout → All (IsPart files table form book) state.layout
-    → IsPartFile form entry.rows (files (part_of table part)) → All (IsPart files table form (appended entry book)) (added form.window part rows (id ∷ []) state).layout
-IsPart-added files table form part rows id entry state book rows_are is describes runs parts last =
-    let row : PartRow = record { lo = state.entries + 1; hi = state.entries + 1; level = 0; part = part; rows = rows } in
+-- the older parts have the rows that they had, and the new one has those of the new entry
+pub parts-added : (table : Table) (rows : ℕ) (id : BlockId) (entry : Entry) (book : Book) (encoded : List ℕ) → Brings table id rows encoded entry → Describes (held_form table).window (held_state table) book
+    → AreRuns 1 (length book.entries) book.layout
+    → All (λ (row : PartRow). IsNewPart table (appended entry book) encoded row ⊎ IsOldPart table book (appended entry book) row) (state_after Written table rows id).layout
+parts-added table rows id entry book encoded brings describes runs =
+    let form = held_form table in
+    let state = held_state table in
+    let row : PartRow = record { lo = state.entries + 1; hi = state.entries + 1; level = 0; part = state.next_part; rows = rows } in
+    let within = AreRuns-within 1 (length book.entries) state.layout (subst (λ (spans : List Span). AreRuns 1 (length book.entries) spans) describes.layout runs) in
     let newest : part_rows form (appended entry book) row.lo row.hi ≡ entry.rows =
-    ap (λ (n : ℕ). part_rows form (appended entry book) (n + 1) (n + 1)) describes.entries ∙ part_rows-newest form entry book is in
-    All-push (IsPart files table form (appended entry book)) state.layout row
-    (IsPart-older files table form entry book state.layout (subst (λ (spans : List Span). AreRuns 1 (length book.entries) spans) describes.layout runs) parts)
-    (record {
-      counted = rows_are ∙ ap length (sym newest);
-      file = subst (λ (read : List (List Value)). IsPartFile form read (files (part_of table part))) (sym newest) last;
-    })
+    ap (λ (n : ℕ). part_rows form (appended entry book) (n + 1) (n + 1)) describes.entries ∙ part_rows-newest form entry book brings.lawful in
+    All-push (λ (r : PartRow). IsNewPart table (appended entry book) encoded r ⊎ IsOldPart table book (appended entry book) r) state.layout row
+    (λ k d below.
+    let older : PartRow = get_or state.layout k d in
+    inr (record { was = Contains-get_or state.layout k d below; same = part_rows-older form entry book older.lo older.hi (within k d below).2 }))
+    (inl (record {
+      part_is = refl;
+      counted = brings.rows_are ∙ ap length (sym newest);
+      file = subst (λ (read : List (List Value)). IsPartFile form read encoded) (sym newest) brings.encoded_is;
+    }))

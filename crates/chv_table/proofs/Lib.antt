@@ -4,3 +4,5 @@ pub mod LogDamageLemmas
 pub mod OpeningLemmas
 pub mod RowsLemmas
 pub mod TableLemmas
+pub mod TurningLemmas
+pub mod MergeLemmas

@@ -81,14 +81,11 @@ opened_within number gate def state table is log_is state_is columns so_far =
     let short = replayed-short def.window no_state state so_far.commits so_far.replays in
     let layout = ap (λ (s : State). length s.layout) state_is in
     let entries = ap (λ (s : State). s.entries) state_is in
-    let next = ap (λ (s : State). s.next_part) state_is in
     let place = ap (λ (l : Log). l.gate) log_is in
     record {
       log = ap (λ (l : Log). l.file) log_is ∙ ap table_log (sym is.number_is);
       columns = subst AreColumns (sym (ap (λ (f : TableForm). f.kinds) is.form_is)) columns;
-      first = omega (arith, next, sound.next);
-      bounded = omega (arith, entries, sound.bounded);
-      counted = omega (arith, layout, entries, next, sound.counted);
+      sound = subst IsSound (sym state_is) sound;
       gate = omega (arith, layout, entries, place, so_far.place, short, sound.counted, sound.next);
     }
 

@@ -1,6 +1,6 @@
 -- The rows that parts hold, and the damage that is told of parts.
 use Rattle.std.proofs.Common.{◌≡◌, inl, inr, ℕ, ◌+◌, ◌<◌, ◌^◌, List, [], ◌∷◌, ◌++◌, length, get_or, take, drop, refl, sym, ap, ap₂, subst, ◌∙◌, arith, append-nil}
-use Rattle.std.specs.List.{flat_map}
+use Rattle.std.specs.List.{All, flat_map}
 use Rattle.std.proofs.lemmas.Bool.{cases_lt}
 use Rattle.std.proofs.lemmas.Grind.{flat_map-append}
 use Rattle.std.proofs.lemmas.List.{get_or_at, get_or_append_left, length-append, take-append-drop, drop_more, take_more}
@@ -13,7 +13,7 @@ use Rattle.chv_commit.specs.declared.part_row.PartRow.{PartRow}
 use Rattle.chv_sip.specs.BlockIds.{keyed_hash, first_key}
 use Rattle.chv_types.specs.declared.kind.Kind.{Kind}
 use Rattle.chv_types.specs.declared.value.Value.{Value}
-use Rattle.chv_part.specs.Books.{TableForm, Book, part_rows}
+use Rattle.chv_part.specs.Books.{TableForm, Book, IsLawfulBook, part_rows}
 use Rattle.chv_part.specs.Parts.{framed, IsPartFile, HashDiffers, IsWhole}
 use Rattle.chv_part.specs.Standing.{IsPart}
 use Rattle.chv_part.specs.declared.damage.Damage.{Damage}
@@ -28,24 +28,21 @@ use Rattle.chv_table.specs.declared.table.Table.{Table}
 abbrev pub row_at : List PartRow → ℕ → PartRow
 row_at layout place = get_or layout place (record { lo = 0; hi = 0; level = 0; part = 0; rows = 0 })
 
--- rows of kinds, and others behind them
+-- rows of kinds, and more behind them
 pub AllAreOf-append : (kinds : List Kind) (a b : List (List Value)) → AllAreOf kinds a → AllAreOf kinds b → AllAreOf kinds (a ++ b)
 AllAreOf-append kinds [] b of_a of_b = of_b
 AllAreOf-append kinds (row ∷ a) b of_a of_b = (of_a.0, AllAreOf-append kinds a b of_a.1 of_b)
 
 -- the rows of one part more
-pub rows_more : (table : Table) (files : FileId → FileState) (book : Book) (place : ℕ) (rows read : List (List Value)) → HoldsBook table files book
-    → place < length table.replay.state.layout → length read < 2 ^ 64 → IsPartFile (held_form table) read (files (part_of table.number (row_at table.replay.state.layout place).part)).bytes
-    → rows ≡ rows_of_parts (held_form table) book (take place table.replay.state.layout) → rows ++ read ≡ rows_of_parts (held_form table) book (take (place + 1) table.replay.state.layout)
-rows_more table files book place rows read held within short is so_far =
-    let form = held_form table in
-    let layout : List PartRow = table.replay.state.layout in
+pub rows_more : (files : FileId → List ℕ) (number : ℕ) (form : TableForm) (book : Book) (layout : List PartRow) (place : ℕ) (rows read : List (List Value)) → IsLawfulBook form book
+    → All (IsPart files number form book) layout → place < length layout → length read < 2 ^ 64 → IsPartFile form read (files (part_of number (row_at layout place).part))
+    → rows ≡ rows_of_parts form book (take place layout) → rows ++ read ≡ rows_of_parts form book (take (place + 1) layout)
+rows_more files number form book layout place rows read lawful parts within short is so_far =
     let row : PartRow = row_at layout place in
     let of : PartRow → List (List Value) = λ (part : PartRow). part_rows form book part.lo part.hi in
-    let part : IsPart (λ f. (files f).bytes) table.number form book row =
-    All-get_or (IsPart (λ f. (files f).bytes) table.number form book) layout place _ within held.parts in
+    let part : IsPart files number form book row = All-get_or (IsPart files number form book) layout place _ within parts in
     let same : read ≡ of row =
-    IsPartFile-unique form read (of row) (files (part_of table.number row.part)).bytes short (length-part_rows form book held.lawful row.lo row.hi) is part.file in
+    IsPartFile-unique form read (of row) (files (part_of number row.part)) short (length-part_rows form book lawful row.lo row.hi) is part.file in
     ap₂ (λ (x y : List (List Value)). x ++ y) so_far (same ∙ sym (append-nil (of row)))
     ∙ sym (flat_map-append of (take place layout) (row ∷ [])) ∙ ap (flat_map of) (sym (take_more layout place _ within))
 

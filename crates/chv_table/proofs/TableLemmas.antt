@@ -22,7 +22,7 @@ use Rattle.chv_part.specs.Books.{TableForm, Book, no_book, part_rows, IsLawfulBo
 use Rattle.chv_part.proofs.BookLemmas.{IsLawfulBook-no_book}
 use Rattle.chv_part.specs.Parts.{IsPartFile}
 use Rattle.chv_part.specs.Standing.{Describes, IsPart, TableStands}
-use Rattle.chv_table.specs.Tables.{IsWithin, IsPlaced, HoldsCommits, HoldsBook, IsSettledPart, held_form, held_state}
+use Rattle.chv_table.specs.Tables.{IsWithin, IsPlaced, HoldsCommits, HoldsBook, IsSettledPart, KeepsHeld, held_form, held_state}
 use Rattle.chv_table.specs.declared.table.Table.{Table}
 
 -- parts with numbers from 8 to below the next one
@@ -161,3 +161,14 @@ pub HoldsCommits-placed : (table : Table) (files : FileId → FileState) (commit
 HoldsCommits-placed table files commits held =
     let ready = held.log in
     omega (arith, ready.place, ap length ready.split, length-append (open_frames (map commit_spelling commits)) ready.rest, closed_long ready.rest ready.closed)
+
+-- a table holds commits, and a book, where one of which the same is held does
+pub HoldsCommits-held : (old new : Table) (files : FileId → FileState) (commits : List Commit) → KeepsHeld old new → HoldsCommits old files commits → HoldsCommits new files commits
+HoldsCommits-held old new files commits kept held =
+    HoldsCommits-by new files commits (held_form old) (held_state old) kept.form kept.state held.right
+    (subst (λ (l : Log). IsReady l.gate (map commit_spelling commits) (files l.file)) (sym kept.log) held.log) held.replays
+
+pub HoldsBook-held : (old new : Table) (files : FileId → FileState) (book : Book) → KeepsHeld old new → HoldsBook old files book → HoldsBook new files book
+HoldsBook-held old new files book kept held =
+    HoldsBook-by new files book old.number (held_form old) (held_state old) held.commits kept.number kept.form kept.state
+    (HoldsCommits-held old new files held.commits kept held.holds) held.lawful held.describes held.parts held.settled_parts

@@ -7,7 +7,7 @@ use Rattle.chv_site.specs.FileIds.{part_of}
 use Rattle.chv_site.specs.Outside.{Outside}
 use Rattle.chv_catalog.specs.declared.table_def.TableDef.{TableDef}
 use Rattle.chv_commit.specs.Commits.{commit_spelling, IsCommit}
-use Rattle.chv_commit.specs.Replays.{MAX_ENTRIES, State, no_state, replayed}
+use Rattle.chv_commit.specs.Replays.{MAX_ENTRIES, State, no_state, replayed, IsSound}
 use Rattle.chv_commit.specs.declared.commit.Commit.{Commit}
 use Rattle.chv_commit.specs.declared.part_row.PartRow.{PartRow}
 use Rattle.chv_gate.specs.GateLog.{IsReady}
@@ -40,13 +40,11 @@ pub record KeepsHeld (old new : Table) : Type 0 where
   pub log : new.log ≡ old.log
   pub state : held_state new ≡ held_state old
 
--- the numbers that are held of a table, whatever its files hold: each frame of its log, and each part, is paid for by entries
+-- what is held of a table, whatever its files hold: each frame of its log is paid for by entries
 pub record IsWithin (table : Table) : Type 0 where
   pub log : IsLive table.number table.log.file
   pub columns : AreColumns table.kinds
-  pub first : 8 ≤ (held_state table).next_part
-  pub bounded : (held_state table).entries ≤ MAX_ENTRIES
-  pub counted : (held_state table).next_part + length (held_state table).layout ≤ 2 ^ 62 + 2 * (held_state table).entries
+  pub sound : IsSound (held_state table)
   pub gate : table.log.gate + 64 * length (held_state table).layout ≤ 64 + 256 * (held_state table).entries
 
 -- the standing gate of a table's log is in its file, whatever the files hold

@@ -1,7 +1,9 @@
 //! One table's files: its log of commits and its parts.
 #![tactic(auto)]
 
+mod discarding;
 mod fault;
+mod merging;
 mod opening;
 mod rows;
 mod table;

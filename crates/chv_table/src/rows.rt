@@ -1,12 +1,13 @@
 // The rows of a table.
 ghost use Rattle.std.specs.Prelude.{◌≡◌, ◌≤◌, ℕ, IfOk, OnOk, IsErrOf};
-ghost use Rattle.std.specs.List.{flat_map};
+ghost use Rattle.std.specs.List.{All, flat_map};
 ghost use Rattle.chv_site.specs.Effects.{OnlyReads};
 ghost use Rattle.chv_site.specs.FileIds.{part_of};
 ghost use Rattle.chv_site.specs.Outside.{bytes_in};
 ghost use Rattle.chv_commit.specs.declared.part_row.PartRow.{PartRow as LivePart};
-ghost use Rattle.chv_part.specs.Books.{AreColumns, TableForm, Book, normal_rows, rows_in, part_rows};
+ghost use Rattle.chv_part.specs.Books.{AreColumns, TableForm, Book, IsLawfulBook, normal_rows, rows_in, part_rows};
 ghost use Rattle.chv_part.specs.Parts.{IsPartFile};
+ghost use Rattle.chv_part.specs.Standing.{IsPart};
 ghost use Rattle.chv_part.specs.declared.damage.Damage.{Damage};
 ghost use Rattle.chv_block.specs.Spellings.{AllAreOf};
 ghost use Rattle.chv_table.specs.Damage.{IsDamageOfPart, IsPartDamage, ArePartsWhole};
@@ -14,6 +15,7 @@ ghost use Rattle.chv_table.specs.Faults.{part_fault_of};
 ghost use Rattle.chv_table.specs.Tables.{IsWithin, HoldsBook, held_form, held_state};
 
 use crate::{Table, TableFault};
+use chv_commit::PartRow;
 use chv_merge::normal_by;
 use chv_part::{Damage, PartFault, read_part};
 use chv_site::{FileId, Site};
@@ -33,7 +35,27 @@ impl Table {
             → IsPartDamage self.now.number (held_form self.now) (held_state self.now).layout (bytes_in (W.outside site.old)) damage }
         ensures keeps { OnlyReads W.tells (IsErrOf result TableFault.Failed) (W.outside site.old) (W.outside site.new) }
     {
-        let rows = self.read_parts(alloc, site)?;
+        self.normal_rows(alloc, site, self.replay.layout())
+    }
+
+    /// The rows of live parts together, in normal form.
+    pub(crate) fn normal_rows<W: Site>(
+        &self,
+        alloc: Global,
+        site: &mut W,
+        parts: &[PartRow],
+    ) -> Result<Block, TableFault>
+        requires columns { AreColumns self.now.kinds }
+        ensures rows { W.tells → IfOk result (λ rows. (book : Book) → IsLawfulBook (held_form self.now) book
+            → All (IsPart (bytes_in (W.outside site.old)) self.now.number (held_form self.now) book) parts.now
+            → rows ≡ normal_rows (held_form self.now) (flat_map (λ (row : LivePart). part_rows (held_form self.now) book row.lo row.hi) parts.now)) }
+        ensures kinds { IfOk result (λ rows. AllAreOf self.now.kinds rows) }
+        ensures whole { W.tells → OnOk result (ArePartsWhole self.now.number (held_form self.now) parts.now (bytes_in (W.outside site.old))) }
+        ensures damaged { W.tells → (damage : Damage) → IsErrOf result (TableFault.Damaged damage)
+            → IsPartDamage self.now.number (held_form self.now) parts.now (bytes_in (W.outside site.old)) damage }
+        ensures keeps { OnlyReads W.tells (IsErrOf result TableFault.Failed) (W.outside site.old) (W.outside site.new) }
+    {
+        let rows = self.read_parts(alloc, site, parts)?;
         Ok(normal_by(
             alloc,
             self.engine,
@@ -43,19 +65,25 @@ impl Table {
         )?)
     }
 
-    // The rows of all live parts, part by part.
-    fn read_parts<W: Site>(&self, alloc: Global, site: &mut W) -> Result<Vec<Row>, TableFault>
+    // The rows of live parts, part by part.
+    fn read_parts<W: Site>(
+        &self,
+        alloc: Global,
+        site: &mut W,
+        parts: &[PartRow],
+    ) -> Result<Vec<Row>, TableFault>
         requires columns { AreColumns self.now.kinds }
-        ensures rows { W.tells → IfOk result (λ rows. (book : Book) → HoldsBook self.now (W.outside site.old).files book
-            → rows.items ≡ flat_map (λ (row : LivePart). part_rows (held_form self.now) book row.lo row.hi) (held_state self.now).layout) }
+        ensures rows { W.tells → IfOk result (λ rows. (book : Book) → IsLawfulBook (held_form self.now) book
+            → All (IsPart (bytes_in (W.outside site.old)) self.now.number (held_form self.now) book) parts.now
+            → rows.items ≡ flat_map (λ (row : LivePart). part_rows (held_form self.now) book row.lo row.hi) parts.now) }
         ensures kinds { IfOk result (λ rows. AllAreOf self.now.kinds rows.items) }
-        ensures whole { W.tells → OnOk result (ArePartsWhole self.now.number (held_form self.now) (held_state self.now).layout (bytes_in (W.outside site.old))) }
+        ensures whole { W.tells → OnOk result (ArePartsWhole self.now.number (held_form self.now) parts.now (bytes_in (W.outside site.old))) }
         ensures damaged { W.tells → (damage : Damage) → IsErrOf result (TableFault.Damaged damage)
-            → IsPartDamage self.now.number (held_form self.now) (held_state self.now).layout (bytes_in (W.outside site.old)) damage }
+            → IsPartDamage self.now.number (held_form self.now) parts.now (bytes_in (W.outside site.old)) damage }
         ensures keeps { OnlyReads W.tells (IsErrOf result TableFault.Failed) (W.outside site.old) (W.outside site.new) }
     {
         let mut rows = Vec::new(alloc);
-        for row in self.replay.layout() {
+        for row in parts {
             let read = read_live_part(alloc, site, self.number, row.part, &self.kinds)?;
             rows.append(&mut read.into_vec())?;
         }

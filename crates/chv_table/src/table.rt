@@ -1,11 +1,14 @@
 // One table while a run goes on.
-ghost use Rattle.std.specs.Prelude.{◌≡◌, ◌↔◌, ◌+◌, ◌*◌, ◌<◌, ◌≤◌, ◌^◌, ℕ, List, [], ◌∷◌, length, IfOk, OnOk, IsErr};
+ghost use Rattle.std.specs.Prelude.{◌≡◌, ◌↔◌, ◌+◌, ◌*◌, ◌<◌, ◌≤◌, ◌^◌, ℕ, List, [], ◌∷◌, ◌++◌, length, IfOk, OnOk, IsErr};
 ghost use Rattle.std.specs.List.{Contains};
-ghost use Rattle.chv_commit.specs.Replays.{added};
+ghost use Rattle.chv_commit.specs.Commits.{commit_spelling};
+ghost use Rattle.chv_commit.specs.Replays.{State};
 ghost use Rattle.chv_commit.specs.declared.commit.Commit.{Commit as SomeCommit};
+ghost use Rattle.chv_gate.specs.GateLog.{frame_of};
 ghost use Rattle.chv_part.specs.Books.{Entry, Book, appended, arrived};
 ghost use Rattle.chv_table.specs.Delivering.{ChangesTable, Brings, Turns, commits_after, state_after};
 ghost use Rattle.chv_table.specs.Tables.{IsWithin, IsPlaced, Takes, HoldsBook, HoldsCommits, KeepsHeld, held_form, held_state, spare, HasRoomFor};
+ghost use Rattle.chv_table.specs.Turning.{Becomes, Fits, noted};
 
 use chv_commit::{PartRow, Replay, frame_of_one};
 use chv_gate::Log;
@@ -116,12 +119,38 @@ impl Table {
         ensures same { (self.new.number ≡ self.old.number) × (held_form self.new ≡ held_form self.old) }
         ensures keeps { ChangesTable W.tells (IsErr result) self.old.number (held_state self.old).next_part (W.outside site.old) (W.outside site.new) }
     {
-        // The part first: a commit that a crash left without its part would be damage.
-        let next = self.replay.next_part();
-        let part = FileId::part(self.number, next);
-        write_part(site, part, encoded)?;
-        self.log.append(site, &frame_of_one(next, rows, id))?;
+        let frame = frame_of_one(self.replay.next_part(), rows, id);
+        self.write_and_append(site, encoded, &frame)?;
         self.replay.take_one(rows, id);
+        Ok(())
+    }
+
+    /// Writes the file of the next part and syncs it, and then appends the frame of the commit that tells of it.
+    pub(crate) fn write_and_append<W: Site>(
+        &mut self,
+        site: &mut W,
+        encoded: &[u8],
+        frame: &[u8],
+    ) -> Result<(), Failed>
+        requires within { IsWithin self.old }
+        requires placed { W.tells → IsPlaced self.old (W.outside site.old).files }
+        requires short { length frame.now ≤ 64 }
+        // A crash at any moment of the call leaves the table's book from before the commit or after it.
+        ensures turned { W.tells → (commit : SomeCommit) (state : State) (book next : Book) → HoldsBook self.old (W.outside site.old).files book
+            → Becomes self.old book next commit state encoded.now → frame.now ≡ frame_of (commit_spelling commit)
+            → Turns result self.old (noted state self.new) book next (W.outside site.old) (W.outside site.new) }
+        ensures commits { W.tells → OnOk result ((commit : SomeCommit) (state : State) (commits : List SomeCommit) → HoldsCommits self.old (W.outside site.old).files commits
+            → Fits self.old commit state → frame.now ≡ frame_of (commit_spelling commit) → HoldsCommits (noted state self.new) (W.outside site.new).files (commits ++ commit ∷ [])) }
+        ensures same { self.new ≡ record self.old { log = self.new.log } }
+        ensures file { self.new.log.file ≡ self.old.log.file }
+        ensures gate { OnOk result (self.new.log.gate ≡ self.old.log.gate + length frame.now) }
+        ensures placed { W.tells → OnOk result (IsPlaced self.new (W.outside site.new).files) }
+        ensures keeps { ChangesTable W.tells (IsErr result) self.old.number (held_state self.old).next_part (W.outside site.old) (W.outside site.new) }
+    {
+        // The part first: a commit that a crash left without its part would be damage.
+        let part = FileId::part(self.number, self.replay.next_part());
+        write_part(site, part, encoded)?;
+        self.log.append(site, frame)?;
         Ok(())
     }
 }

@@ -12,7 +12,7 @@ index_mut-held-requires c = omega (arith, items_within c.args.self.now c.args.ta
 pub overflow_add-entries : goal.overflow_add-entries
 overflow_add-entries c =
     let at = table_of c.args.self.now c.args.table c.index_mut-held.result.now c.requires.within c.requires.table c.index_mut-held.ensures.value in
-    omega (arith, c.entries.ensures, c.requires.few, at.held_as.0.bounded)
+    omega (arith, c.entries.ensures, c.requires.few, at.held_as.0.sound.bounded)
 
 -- there is none for so many
 pub returns-then-entries-count-gt-MAX_ENTRIES-clause-fits : goal.returns-then-entries-count-gt-MAX_ENTRIES-clause-fits

@@ -20,15 +20,13 @@ returns-in_err-read-clause-damaged g c = λ tells damage is.
     let S = g.W.Site in
     let table = c.args.self.now in
     let form = held_form table in
-    let layout : List PartRow = table.replay.state.layout in
+    let layout : List PartRow = c.args.parts.now in
     let place : ℕ = c.loop-row.row-index in
-    let items_are : c.layout-row-items.result.now ≡ layout = c.layout-row-items.ensures in
     let p = err_from_is_err_and c.from_residual.result c.from_residual.ensures.1 in
     let same : p.0 ≡ TableFault.Damaged damage = cc (sym p.1 ∙ is) in
     let is_of : IsDamageOfPart table.number form (row_at layout place).part (bytes_in (S.outside c.loop-row.site) (part_of table.number (row_at layout place).part)) damage =
-    subst (λ (l : List PartRow). IsDamageOfPart table.number form (row_at l place).part (bytes_in (S.outside c.loop-row.site) (part_of table.number (row_at l place).part)) damage)
-    items_are (c.in_err-read.ensures.damaged tells damage (ap Err (sym p.2 ∙ same)) form refl) in
-    first_damaged table.number form layout place (bytes_in (S.outside c.args.site.now)) damage (omega (arith, ap length items_are)) (c.loop-row.invariant.whole tells)
+    c.in_err-read.ensures.damaged tells damage (ap Err (sym p.2 ∙ same)) form refl in
+    first_damaged table.number form layout place (bytes_in (S.outside c.args.site.now)) damage (omega arith) (c.loop-row.invariant.whole tells)
     (subst (λ (s : FileState). IsDamageOfPart table.number form (row_at layout place).part s.bytes damage) (c.loop-row.invariant.keeps.files tells (part_of table.number (row_at layout place).part)) is_of)
 
 pub loop-row-preserved : goal.loop-row-preserved
@@ -36,25 +34,20 @@ loop-row-preserved g c =
     let S = g.W.Site in
     let table = c.args.self.now in
     let form = held_form table in
-    let layout : List PartRow = table.replay.state.layout in
+    let layout : List PartRow = c.args.parts.now in
     let place : ℕ = c.loop-row.row-index in
     let before = S.outside c.args.site.now in
     let part = part_of table.number (row_at layout place).part in
-    let items_are : c.layout-row-items.result.now ≡ layout = c.layout-row-items.ensures in
-    let within : place < length layout = omega (arith, ap length items_are) in
+    let within : place < length layout = omega arith in
     let read_is : S.tells → IsPartFile form c.in_ok-read.read (bytes_in before part) = λ tells.
-    subst (λ (s : FileState). IsPartFile form c.in_ok-read.read s.bytes) (c.loop-row.invariant.keeps.files tells part)
-    (subst (λ (l : List PartRow). IsPartFile form c.in_ok-read.read (bytes_in (S.outside c.loop-row.site) (part_of table.number (row_at l place).part)))
-    items_are (c.in_ok-read.ensures.read tells form refl)) in
+    subst (λ (s : FileState). IsPartFile form c.in_ok-read.read s.bytes) (c.loop-row.invariant.keeps.files tells part) (c.in_ok-read.ensures.read tells form refl) in
+    let short : length c.in_ok-read.read < 2 ^ 64 = omega (arith, ap length c.into_vec.ensures, c.into_vec.result.ok, c.into_vec.result.small) in
     record {
-      rows = λ tells book held.
-          let short : length c.in_ok-read.read < 2 ^ 64 = omega (arith, ap length c.into_vec.ensures, c.into_vec.result.ok, c.into_vec.result.small) in
+      rows = λ tells book lawful parts.
           rw (c.in_ok-append.ensures.items, c.into_vec.ensures)
-          (rows_more table before.files book place c.loop-row.rows.items c.in_ok-read.read held within short (read_is tells) (c.loop-row.invariant.rows tells book held));
+          (rows_more (bytes_in before) table.number form book layout place c.loop-row.rows.items c.in_ok-read.read lawful parts within short (read_is tells) (c.loop-row.invariant.rows tells book lawful parts));
       whole = λ tells. whole_more table.number form layout place (bytes_in before) within (c.loop-row.invariant.whole tells) (c.in_ok-read.read, read_is tells);
-      kinds =
-          let short : length c.in_ok-read.read < 2 ^ 64 = omega (arith, ap length c.into_vec.ensures, c.into_vec.result.ok, c.into_vec.result.small) in
-          rw (c.in_ok-append.ensures.items, c.into_vec.ensures) (AllAreOf-append table.kinds c.loop-row.rows.items c.in_ok-read.read c.loop-row.invariant.kinds c.in_ok-read.ensures.kinds);
+      kinds = rw (c.in_ok-append.ensures.items, c.into_vec.ensures) (AllAreOf-append table.kinds c.loop-row.rows.items c.in_ok-read.read c.loop-row.invariant.kinds c.in_ok-read.ensures.kinds);
       keeps = reads_on ⊥ (Ok c.in_ok-read.read ≡ Err TableFault.Failed) ⊥ before (S.outside c.loop-row.site) (S.outside c.read_live_part.new.site)
           (λ none. none) (λ none. absurd none) (λ failed. absurd (cc failed)) S.tells c.loop-row.invariant.keeps c.in_ok-read.ensures.keeps;
     }
@@ -62,12 +55,10 @@ loop-row-preserved g c =
 pub returns-clause-whole : goal.returns-clause-whole
 returns-clause-whole g c = λ tells.
     let table = c.args.self.now in
-    let layout : List PartRow = table.replay.state.layout in
-    let end : length layout ≤ c.loop-row.row-index = omega (arith, ap length c.layout-row-items.ensures) in
-    subst (λ (l : List PartRow). ArePartsWhole table.number (held_form table) l (bytes_in (g.W.Site.outside c.args.site.now))) (take_all c.loop-row.row-index layout end) (c.loop-row.invariant.whole tells)
+    let layout : List PartRow = c.args.parts.now in
+    subst (λ (l : List PartRow). ArePartsWhole table.number (held_form table) l (bytes_in (g.W.Site.outside c.args.site.now))) (take_all c.loop-row.row-index layout (omega arith)) (c.loop-row.invariant.whole tells)
 
 pub returns-clause-rows : goal.returns-clause-rows
-returns-clause-rows g c = λ tells book held.
-    let layout : List PartRow = c.args.self.now.replay.state.layout in
-    let end : length layout ≤ c.loop-row.row-index = omega (arith, ap length c.layout-row-items.ensures) in
-    c.loop-row.invariant.rows tells book held ∙ ap (rows_of_parts (held_form c.args.self.now) book) (take_all c.loop-row.row-index layout end)
+returns-clause-rows g c = λ tells book lawful parts.
+    let layout : List PartRow = c.args.parts.now in
+    c.loop-row.invariant.rows tells book lawful parts ∙ ap (rows_of_parts (held_form c.args.self.now) book) (take_all c.loop-row.row-index layout (omega arith))
